@@ -30,6 +30,7 @@ SUITES = {
     "short_texts": [],
     "replays": ["0", "100"],
     "outlines": ["0", "200"],
+    "corpora": ["0", "60"],
     "explanations": ["0", "400"],
     "long_texts": ["0", "100"],
     "plans": ["0", "150"],

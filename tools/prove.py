@@ -39,6 +39,7 @@ def compare(sums, program):
 
 def main():
     sums = Sums()
+    sums.run("tools/layout.py", python(f"{HERE}/layout.py"))
     sums.run("tools/edits.py --fit", python(f"{HERE}/edits.py", "--fit"))
     with tempfile.TemporaryDirectory(prefix="prove-") as room:
         proved, proofs, edits = f"{room}/proved", f"{room}/proofs.log", f"{room}/edits.log"

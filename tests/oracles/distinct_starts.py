@@ -74,7 +74,7 @@ class DistinctStarts(EveryForm):
         if word in ("sepBy", "sepBy1", "endBy"):
             return (word, whole, self.beginning(self.some(2)))
         if word in ("chainl1", "chainr1"):
-            return (word, self.one(["node", "list", "call", "join", "flat"]), whole, self.beginning(self.some(2)))
+            return (word, self.one(["node", "list", "call", "join", "flat"]), self.one([None, "it", "list"]), whole, self.beginning(self.some(2)))
         if word == "between":
             return (word, self.beginning(characters), self.beginning(self.some(1)), rest)
         if word in ("try", "local"):

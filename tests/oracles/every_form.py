@@ -117,7 +117,7 @@ class EveryForm:
         if word == "between":
             return (word, self.value(0), self.value(0), self.value(depth))
         if word in ("chainl1", "chainr1"):
-            return (word, self.one(BUILDERS), self.value(depth), self.value(depth))
+            return (word, self.one(BUILDERS), self.one([None, None, "", self.string()]), self.value(depth), self.value(depth))
         if word == "build":
             return (word, self.one(BUILDERS), self.one([None, "", self.string()]), self.value(depth))
         if word == "label":
@@ -338,7 +338,8 @@ def written(it):
         return f"{word}({', '.join(map(written, rest[0]))})"
     if word == "label":
         return f"label({written(rest[0])}, {literal(rest[1])})"
-    if word == "build":
-        said = [rest[0], *([] if rest[1] is None else [literal(rest[1])]), written(rest[2])]
-        return f"build({', '.join(said)})"
+    if word in ("build", "chainl1", "chainr1"):
+        builder, symbol, *parts = rest
+        said = [builder, *([] if symbol is None else [literal(symbol)]), *map(written, parts)]
+        return f"{word}({', '.join(said)})"
     return f"{word}({', '.join(part if isinstance(part, str) else written(part) for part in rest)})"

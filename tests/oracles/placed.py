@@ -55,7 +55,7 @@ class Placed(Walk):
         stretches, forests = self.folded(parts)
         forest = forests[0]
         for at in range(1, len(stretches)):
-            made = built(other[0][0], "", forest + forests[2 * at - 1] + forests[2 * at])
+            made = built(other[0][0], other[1], forest + forests[2 * at - 1] + forests[2 * at])
             forest = [placed(made, stretches[0][0], stretches[at][1])]
         return forest
 
@@ -63,7 +63,7 @@ class Placed(Walk):
         stretches, forests = self.folded(parts)
         forest = forests[-1]
         for at in reversed(range(len(stretches) - 1)):
-            made = built(other[0][0], "", forests[2 * at] + forests[2 * at + 1] + forest)
+            made = built(other[0][0], other[1], forests[2 * at] + forests[2 * at + 1] + forest)
             forest = [placed(made, stretches[at][0], stretches[-1][1])]
         return forest
 

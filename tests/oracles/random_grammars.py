@@ -65,7 +65,8 @@ class Maker:
         if word in ("seq", "choice"):
             return f"{word}({', '.join(self.value(depth) for _ in range(self.random.randint(1, 4)))})"
         if word in ("chainl1", "chainr1"):
-            return f"{word}(list, {self.value(depth)}, {self.value(depth)})"
+            builder = self.one(["list", "list", 'node, "it"'])
+            return f"{word}({builder}, {self.value(depth)}, {self.value(depth)})"
         if word == "expr":
             return f"expr(node, node, node, {self.value(depth)})"
         if word == "sepBy":

@@ -12,7 +12,7 @@ import json
 
 from oracles import operator_trees
 from oracles.operator_trees import Operator
-from oracles.sets import BUILDERS, KEYWORDS, SMALL_LETTERS, Reader, base_form, class_of, only
+from oracles.sets import BUILDERS, KEYWORDS, SMALL_LETTERS, WITH_SYMBOL, Reader, base_form, class_of, only
 
 
 
@@ -59,7 +59,7 @@ class WholeReader(Reader):
         for _ in range(BUILDERS[word]):
             builders.append(self.take("name"))
             self.take("mark", ",")
-        if word == "build" and self.peek()[0] == "literal":
+        if word in WITH_SYMBOL and self.peek()[0] == "literal":
             symbol = self.literal()
             self.take("mark", ",")
         made, parts, _ = base_form(word, self.values())
@@ -296,14 +296,14 @@ class Walk:
         forests = self.chain(parts)
         forest = forests[0]
         for at in range(1, len(forests), 2):
-            forest = [built(other[0][0], "", forest + forests[at] + forests[at + 1])]
+            forest = [built(other[0][0], other[1], forest + forests[at] + forests[at + 1])]
         return forest
 
     def do_chainr1(self, parts, other):
         forests = self.chain(parts)
         forest = forests[-1]
         for at in range(len(forests) - 2, 0, -2):
-            forest = [built(other[0][0], "", forests[at - 1] + forests[at] + forest)]
+            forest = [built(other[0][0], other[1], forests[at - 1] + forests[at] + forest)]
         return forest
 
     def do_expr(self, parts, other):

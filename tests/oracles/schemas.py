@@ -5,7 +5,7 @@ import os
 
 TOP = os.path.dirname(os.path.dirname(os.path.dirname(os.path.realpath(__file__))))
 FOLDER = f"{TOP}/share/schema"
-NAMES = ("trees", "places", "trail", "certificate", "check", "lines")
+NAMES = ("trees", "places", "trail", "certificate", "check", "lines", "cases")
 # What says nothing of a value.
 SILENT = {"$schema", "$defs", "title", "description"}
 TYPES = {"object": dict, "array": list, "string": str, "boolean": bool, "null": type(None), "integer": int}

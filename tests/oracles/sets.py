@@ -80,6 +80,7 @@ SHORT_FORMS = "many1 option between sepBy sepBy1 endBy"
 FORMS = (BASE_FORMS + " " + SHORT_FORMS).split()
 MOST_OPERATORS = 64
 BUILDERS = {"chainl1": 1, "chainr1": 1, "build": 1, "expr": 3}
+WITH_SYMBOL = ("build", "chainl1", "chainr1")
 
 
 def tokens_of(text):
@@ -235,7 +236,7 @@ class Reader:
         for _ in range(BUILDERS.get(word, 0)):
             self.take("name")
             self.take("mark", ",")
-        if word == "build" and self.taken("literal"):
+        if word in WITH_SYMBOL and self.taken("literal"):
             self.take("mark", ",")
         return base_form(word, self.values())
 

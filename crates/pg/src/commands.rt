@@ -17,6 +17,7 @@ mod places;
 mod probe;
 mod replay;
 mod show;
+mod test;
 
 use crate::commands::check::{Checking, check_files};
 use crate::commands::explain::explain_file;
@@ -24,6 +25,7 @@ use crate::commands::parse::parse_files;
 use crate::commands::probe::{Probing, probe_files};
 use crate::commands::replay::replay_files;
 use crate::commands::show::{print_file, show_file, translate_file, verify_files};
+use crate::commands::test::test_files;
 use pg_command_line::Request;
 use pg_language::Reading;
 use pg_pred::Registry;
@@ -112,6 +114,11 @@ fn answer<R: AllocGlobal + Files + Input + Print + Eprint>(
             text,
             trail,
         } => replay_files(rt, grammar, text, trail, registry),
+        Request::Test {
+            grammar,
+            corpora,
+            testing,
+        } => test_files(rt, grammar, corpora, registry, testing),
         Request::Print { grammar } => print_file(rt, grammar, registry),
         Request::Sets { grammar } => show_file(rt, grammar, registry),
         Request::Haskell { grammar, module } => translate_file(rt, grammar, registry, module),

@@ -17,6 +17,7 @@ mod fields;
 mod notes;
 mod refused_file;
 mod runs;
+mod symbols;
 mod used;
 mod witnesses;
 

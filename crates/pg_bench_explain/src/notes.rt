@@ -2,6 +2,7 @@
 
 use crate::derivable::derivable_nodes;
 use crate::explain::lent;
+use crate::symbols::idle_symbol;
 use crate::used::{Used, used_by};
 use pg_bench_grammar::{Judgement, LoadedFile};
 use pg_explain::GrammarFile;
@@ -14,15 +15,16 @@ use std::alloc::{AllocError, Global};
 /// The last place with a position of its own.
 const LAST_PLACE: usize = (1 << 28) - 1;
 
-/// A note on a rule, a class or a word item.
+/// A note on a rule, a symbol, a class or a word item.
 #[derive(Drop)]
 struct Note {
     words: String,
-    /// Where the rule's body stands, if the note is on a rule.
+    /// Where the rule's body or the symbol's form stands.
     place: Option<usize>,
 }
 
-/// A line for each rule that derives no text or that the start rule doesn't reach, and for each class and each word item that nothing uses.
+/// A line for each rule that derives no text or that the start rule doesn't reach, for each symbol for which a builder has no use, and for each class and
+/// each word item that nothing uses.
 pub(crate) fn notes(
     alloc: Global,
     grammar: &Grammar,
@@ -119,8 +121,52 @@ fn notes_of(alloc: Global, grammar: &Grammar, spans: &[Span]) -> Result<Vec<Note
             push_rule(alloc, &mut notes, spans, rule, "no text is derived from")?;
         }
     }
+    push_symbols(alloc, &mut notes, grammar, spans)?;
     push_items(alloc, &mut notes, grammar, &used)?;
     Ok(notes)
+}
+
+/// Adds the notes on symbols for which builders have no use. Short forms copy nodes, whose symbols stand in the file once.
+fn push_symbols(
+    alloc: Global,
+    notes: &mut Vec<Note>,
+    grammar: &Grammar,
+    spans: &[Span],
+) -> Result<(), AllocError> {
+    let mut noted = Vec::new(alloc);
+    for (number, node) in grammar.nodes().iter().enumerate() {
+        let place = place_of(spans, number);
+        if let Some(words) = idle_symbol(alloc, node)? {
+            push_symbol(notes, &mut noted, words, place)?;
+        }
+    }
+    Ok(())
+}
+
+/// Adds the note on a symbol, unless that of its place was noted.
+fn push_symbol(
+    notes: &mut Vec<Note>,
+    noted: &mut Vec<usize>,
+    words: String,
+    place: usize,
+) -> Result<(), AllocError> {
+    if noted.iter().any(|other| *other == place) {
+        return Ok(());
+    }
+    noted.push(place)?;
+    notes.push(Note {
+        words,
+        place: Some(place),
+    })?;
+    Ok(())
+}
+
+/// Where a node stands in the file.
+fn place_of(spans: &[Span], node: usize) -> usize {
+    match spans.get(node) {
+        Some(span) => span.first,
+        None => 0,
+    }
 }
 
 /// Adds the notes on a rule.
@@ -132,10 +178,7 @@ fn push_rule(
     words: &str,
 ) -> Result<(), AllocError> {
     let name = &rule.name;
-    let place = match spans.get(rule.body.index()) {
-        Some(span) => span.first,
-        None => 0,
-    };
+    let place = place_of(spans, rule.body.index());
     let words = format!(in alloc; "{words} `{name}`")?;
     notes.push(Note {
         words,

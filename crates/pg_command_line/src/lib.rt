@@ -14,7 +14,7 @@ const MOST_STEPS: i64 = 1_000_000_000;
 const USUAL_STEPS: u64 = 1_000_000;
 
 /// The version, and the toolchain that proved it.
-const VERSION: &str = "0.7.0 (proved by rattle-kit-13f)";
+const VERSION: &str = "0.8.0 (proved by rattle-kit-13f)";
 
 /// The help of a word that names a file.
 const GRAMMAR: &str = "The grammar file, or - for standard input";
@@ -76,6 +76,11 @@ const HELP_OF_HASKELL: &str =
 
 Example: pgw haskell --module Color examples/color.g";
 
+const HELP_OF_TEST: &str =
+    "Exit status: 0 every case passed, 1 findings or a case that failed, 2 trouble (arguments or files that can't be used), 3 out of memory
+
+Example: pgw test examples/call.g examples/call.corpus";
+
 /// The name of a Haskell module if none is given (ours).
 const USUAL_MODULE: &str = "Grammar";
 
@@ -134,6 +139,32 @@ pub struct Parsing {
     pub steps: Steps,
 }
 
+/// What is printed of tried cases.
+#[derive(Clone, Copy)]
+pub enum Tested {
+    /// Lines for those that failed, and the sum.
+    Failed,
+    /// Lines for all, and the sum.
+    All,
+    /// A line of JSON for each.
+    Json,
+    /// The corpus, with what came in the place of what was wanted.
+    Updated,
+}
+
+/// How cases are tried.
+#[derive(Clone, Copy)]
+pub struct Testing<'a> {
+    /// What is printed of them.
+    pub tested: Tested,
+    /// What the names of those that are tried contain.
+    pub only: &'a str,
+    /// Whether texts are probed, and not parsed.
+    pub probes: bool,
+    /// Whether it is told what no case takes of the grammar.
+    pub covers: bool,
+}
+
 /// A request. The names of files are relative to the caller's folder; `-` is standard input.
 #[derive(Clone, Copy)]
 pub enum Request<'m, 'a> {
@@ -176,6 +207,12 @@ pub enum Request<'m, 'a> {
         grammar: &'a str,
         text: &'a str,
         trail: &'a str,
+    },
+    /// Try the cases of each corpus by the grammar.
+    Test {
+        grammar: &'a str,
+        corpora: &'m [&'a str],
+        testing: Testing<'a>,
     },
     /// Print the grammar in canonical form.
     Print {
@@ -220,7 +257,8 @@ fn with_reading_commands<'a>(
     let program = with_command(program, verify_command(alloc));
     let program = with_command(program, parse_command(alloc));
     let program = with_command(program, probe_command(alloc));
-    with_command(program, replay_command(alloc))
+    let program = with_command(program, replay_command(alloc));
+    with_command(program, test_command(alloc))
 }
 
 /// Adds the commands that print a grammar.
@@ -318,6 +356,23 @@ fn replay_command<'a>(alloc: Global) -> Result<Command<'a>, AllocError> {
     let command = bare(alloc, "replay", about, HELP_OF_REPLAY).arg(quiet(alloc));
     let command = with_grammar_and_text(alloc, command);
     with_arg(command, file(alloc, "trail", trail))
+}
+
+fn test_command<'a>(alloc: Global) -> Result<Command<'a>, AllocError> {
+    let lists = lists_all(alloc)?;
+    let json = json_of_cases(alloc)?;
+    let coverage = coverage(alloc)?;
+    let about = "Tries the cases of corpora: texts, and what is to come of them";
+    let corpus = "The file with cases, in UTF-8, or - for standard input";
+    let command = bare(alloc, "test", about, HELP_OF_TEST).arg(named(alloc));
+    let command = with_arg(command, lists);
+    let command = with_arg(command, json);
+    let command = with_arg(command, update(alloc));
+    let command = with_arg(command, probes(alloc));
+    let command = with_arg(command, coverage);
+    let command = with_arg(command, quiet(alloc));
+    let command = with_arg(command, file(alloc, "grammar", GRAMMAR));
+    with_arg(command, files(alloc, "corpus", corpus))
 }
 
 /// Adds the words that name the grammar file and the file with the text.
@@ -475,6 +530,62 @@ fn only<'a>(alloc: Global) -> Result<Arg<'a>, AllocError> {
         .requires_arg("trace")
 }
 
+/// The word that picks cases.
+fn named<'a>(alloc: Global) -> Arg<'a> {
+    Arg::new(alloc, "only")
+        .long("only")
+        .value_name("NAME")
+        .action(ArgAction::Set)
+        .help("Tries only cases whose name contains this")
+}
+
+/// The word that asks for all cases.
+fn lists_all<'a>(alloc: Global) -> Result<Arg<'a>, AllocError> {
+    Arg::new(alloc, "verbose")
+        .short('v')
+        .long("verbose")
+        .action(ArgAction::SetTrue)
+        .help("Lists the cases that pass, too")
+        .conflicts_with("json")?
+        .conflicts_with("update")
+}
+
+/// The word that asks for cases as JSON.
+fn json_of_cases<'a>(alloc: Global) -> Result<Arg<'a>, AllocError> {
+    Arg::new(alloc, "json")
+        .long("json")
+        .action(ArgAction::SetTrue)
+        .help("Prints a line of JSON for each case, for scripts")
+        .conflicts_with("update")
+}
+
+/// The word that asks for the corpus with what came.
+fn update<'a>(alloc: Global) -> Arg<'a> {
+    Arg::new(alloc, "update")
+        .long("update")
+        .action(ArgAction::SetTrue)
+        .help("Prints the corpus, with what came in the place of what was wanted")
+}
+
+/// The word that asks for what no case takes.
+fn coverage<'a>(alloc: Global) -> Result<Arg<'a>, AllocError> {
+    Arg::new(alloc, "coverage")
+        .long("coverage")
+        .action(ArgAction::SetTrue)
+        .help("Also prints what of the grammar no case that passes tries")
+        .conflicts_with("json")?
+        .conflicts_with("update")?
+        .conflicts_with("probe")
+}
+
+/// The word that asks for probes.
+fn probes<'a>(alloc: Global) -> Arg<'a> {
+    Arg::new(alloc, "probe")
+        .long("probe")
+        .action(ArgAction::SetTrue)
+        .help("Probes the texts, as `probe` does, by any grammar")
+}
+
 fn print_command<'a>(alloc: Global) -> Result<Command<'a>, AllocError> {
     let about = "Prints a grammar file in canonical form";
     bare(alloc, "print", about, HELP_OF_PRINT).arg(file(alloc, "grammar", GRAMMAR))
@@ -531,6 +642,7 @@ pub fn request_of<'m, 'a>(matches: &'m ArgMatches<'a>) -> Option<Request<'m, 'a>
         "parse" => parse_request(found),
         "probe" => probe_request(found),
         "replay" => replay_request(found),
+        "test" => test_request(found),
         "print" => print_request(found),
         "sets" => sets_request(found),
         "haskell" => haskell_request(found),
@@ -618,6 +730,28 @@ fn replay_request<'m, 'a>(found: &'m ArgMatches<'a>) -> Option<Request<'m, 'a>> 
         grammar: found.get_str("grammar")?,
         text: found.get_str("text")?,
         trail: found.get_str("trail")?,
+    })
+}
+
+fn test_request<'m, 'a>(found: &'m ArgMatches<'a>) -> Option<Request<'m, 'a>> {
+    let tested = if found.get_flag("update") {
+        Tested::Updated
+    } else if found.get_flag("json") {
+        Tested::Json
+    } else if found.get_flag("verbose") {
+        Tested::All
+    } else {
+        Tested::Failed
+    };
+    Some(Request::Test {
+        grammar: found.get_str("grammar")?,
+        corpora: found.get_strs("corpus")?,
+        testing: Testing {
+            tested,
+            only: found.get_str("only").unwrap_or(""),
+            probes: found.get_flag("probe"),
+            covers: found.get_flag("coverage"),
+        },
     })
 }
 

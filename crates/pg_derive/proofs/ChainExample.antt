@@ -12,10 +12,10 @@ use Rattle.pg_grammar_form.specs.declared.form.Form.TheVariants as form
 use Rattle.pg_grammar_form.specs.declared.form.Leaf.TheVariants as leaf
 use Rattle.pg_grammar_value.specs.declared.grammar.Rule as declared
 use Rattle.pg_grammar_form.specs.declared.side.Side.TheVariants.{Left}
-use Rattle.pg_grammar_form.specs.declared.used.BuilderUse.{BuilderUse}
+use Rattle.pg_grammar_form.specs.declared.used.ChainBuilder.{ChainBuilder}
 use Rattle.pg_derive.specs.Chains.{AreCopies, IsRest}
 
-module _ (used : BuilderUse) where
+module _ (used : ChainBuilder) where
   abbrev nodes : List Node
   nodes =
       form.Leaf (leaf.String (codes "x")) ∷ form.Leaf (leaf.String (codes "+")) ∷

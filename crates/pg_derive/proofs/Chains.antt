@@ -11,7 +11,7 @@ use Rattle.pg_grammar_value.specs.declared.grammar.Rule as declared
 use Rattle.pg_grammar_form.specs.declared.side.Side.{Side}
 use Rattle.pg_grammar_value.specs.declared.trail.TrailItem.{TrailItem}
 use Rattle.pg_grammar_value.specs.declared.trail.TrailItem.TheVariants.{Alt, Rounds}
-use Rattle.pg_grammar_form.specs.declared.used.BuilderUse.{BuilderUse}
+use Rattle.pg_grammar_form.specs.declared.used.ChainBuilder.{ChainBuilder}
 use Rattle.pg_message.proofs.Nothing.{merged-nothing}
 use Rattle.pg_language.proofs.Unique.{same}
 use Rattle.pg_language.specs.Answers as answers
@@ -286,7 +286,7 @@ module _ (G : Given) (side : Side) (shape : Shape) (p s node : ℕ) (is : IsRest
 
 -- ---- chains
 
-module _ (G : Given) (side : Side) (used : BuilderUse) (p s first rest : ℕ) (copy : AreCopies G.grammar first p) (is : IsRest G.grammar p s rest) (a : Spot) where
+module _ (G : Given) (side : Side) (used : ChainBuilder) (p s first rest : ℕ) (copy : AreCopies G.grammar first p) (is : IsRest G.grammar p s rest) (a : Spot) where
   abbrev Alike : Outcome → Outcome → Type 0
   Alike o q = AreAlike G side used.shape p s a o q
 

@@ -7,7 +7,7 @@ use Rattle.pg_grammar_value.specs.Grammar.{Grammar, IsGrammar}
 use Rattle.pg_grammar_form.specs.Forms.{Node}
 use Rattle.pg_grammar_form.specs.declared.form.Form.TheVariants as form
 use Rattle.pg_grammar_form.specs.declared.side.Side.{Side}
-use Rattle.pg_grammar_form.specs.declared.used.BuilderUse.{BuilderUse}
+use Rattle.pg_grammar_form.specs.declared.used.ChainBuilder.{ChainBuilder}
 use Rattle.pg_sets.specs.Follow.{IsChain}
 use Rattle.pg_sets.specs.Follow as follow
 use Rattle.pg_sets_nullable.specs.Nullable.{Nullable, NullableForm}
@@ -56,10 +56,10 @@ record IsLinked (g : Grammar) (q r : ℕ) (n : Node) : Type 0 where
   reached : (x : ℕ) → ReachedIn g (q ∷ r ∷ q ∷ []) x → ReachedPart g n x
   empty : Nullable g q → NullableForm g n
 
-no_key_chain : {g : Grammar} {side : Side} {used : BuilderUse} {q r : ℕ} → IsKeyTry g (form.Chain side used q r) → ⊥
+no_key_chain : {g : Grammar} {side : Side} {used : ChainBuilder} {q r : ℕ} → IsKeyTry g (form.Chain side used q r) → ⊥
 no_key_chain h = elim h [ ]
 
-linked : {g : Grammar} (side : Side) (used : BuilderUse) (q r : ℕ) → IsLinked g q r (form.Chain side used q r)
+linked : {g : Grammar} (side : Side) (used : ChainBuilder) (q r : ℕ) → IsLinked g q r (form.Chain side used q r)
 linked side used q r = record { chain = follow.chain; bare = no_key_chain; reached = λ x is. reached.chain is; empty = λ n. null.chain n }
 
 module _ (g : Grammar) (sets : Sets) (are : AreSets g sets) (acyclic : (r : ℕ) → Chain g r r → ⊥) (grammar : IsGrammar g) (faultless : IsFaultless g) where
@@ -154,5 +154,5 @@ module _ (g : Grammar) (sets : Sets) (are : AreSets g sets) (acyclic : (r : ℕ)
         falls = parts_fall g sets are acyclic ((node_sets g sets).level p) (q ∷ r ∷ q ∷ []) (λ x is. in_falls g sets are acyclic p x n e (reached_is (IsPart g p) parts is) (linked.reached x is));
       }
 
-  pub links_fit : (p : ℕ) (side : Side) (used : BuilderUse) (q r : ℕ) → slice_get g.nodes p ≡ Some (form.Chain side used q r) → ChainIsPredictive (node_sets g sets) p q r
+  pub links_fit : (p : ℕ) (side : Side) (used : ChainBuilder) (q r : ℕ) → slice_get g.nodes p ≡ Some (form.Chain side used q r) → ChainIsPredictive (node_sets g sets) p q r
   links_fit p side used q r e = let parts = are_parts g grammar p (form.Chain side used q r) e in chain_fits p q r (form.Chain side used q r) e (linked side used q r) parts.0 parts.1.0

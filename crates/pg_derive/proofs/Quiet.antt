@@ -26,7 +26,7 @@ use Rattle.pg_language.specs.Leaves.{some_word_outcome, some_declare_outcome}
 use Rattle.pg_language.specs.Reactions.{ok_kind, error_kind, counted_by, labelled_by}
 use Rattle.pg_language.specs.Outcomes.{Outcome, ok, failed}
 use Rattle.pg_grammar_form.specs.declared.side.Side.{Side}
-use Rattle.pg_grammar_form.specs.declared.used.BuilderUse.{BuilderUse}
+use Rattle.pg_grammar_form.specs.declared.used.ChainBuilder.{ChainBuilder}
 use Rattle.pg_language.specs.declared.reading.Reading.{Reading}
 use Rattle.pg_language.specs.declared.reading.Reading.TheVariants.{Library, Report}
 use Rattle.pg_tree.specs.declared.shape.Shape.{Shape}
@@ -174,7 +174,7 @@ module _ (G : Given) (scalars : all_scalars G.text ≡ true) (whole : IsWhole G.
           let round = bare_within G.text (BeginsParts sets (r ∷ q ∷ [])) (sets.first p) a.place scalars (f.next en) bare in
           linked en v t e m run (lower r (let falls = (f.falls.1 en).0 in omega arith) is_r (λ s b. round s (inl b)))
 
-  quiet_links : (a : Spot) (p q r : ℕ) (side : Side) (used : BuilderUse) → Quietly (AnswersChain G side used.shape q r zero a) (sets.nullable p ≡ true) a → QuietForm (form.Chain side used q r) p a
+  quiet_links : (a : Spot) (p q r : ℕ) (side : Side) (used : ChainBuilder) → Quietly (AnswersChain G side used.shape q r zero a) (sets.nullable p ≡ true) a → QuietForm (form.Chain side used q r) p a
   quiet_links a p q r side used (refuses e m run) = refuses e _ (answers.chain run)
   quiet_links a p q r side used (skips x v t e m run) = skips x v (Rounds zero ∷ t) e _ (answers.chain run)
 

@@ -9,7 +9,7 @@ use Rattle.pg_grammar_value.specs.declared.grammar.Rule as declared
 use Rattle.pg_grammar_form.specs.declared.side.Side.{Side}
 use Rattle.pg_grammar_value.specs.declared.trail.TrailItem.{TrailItem}
 use Rattle.pg_grammar_value.specs.declared.trail.TrailItem.TheVariants.{Alt, Rounds}
-use Rattle.pg_grammar_form.specs.declared.used.BuilderUse.{BuilderUse}
+use Rattle.pg_grammar_form.specs.declared.used.ChainBuilder.{ChainBuilder}
 use Rattle.pg_language.specs.Answers.{Given, Answers, AnswersForm}
 use Rattle.pg_language.specs.Derives.{Spot, Link, folded}
 use Rattle.pg_language.specs.Errors.{Error}
@@ -97,7 +97,7 @@ pub record SomeRun (G : Given) (n : Node) (a : Spot) (IsSo : Outcome → Type 0)
 
 -- a chain answers as its operand followed by `rest`, and the other way round
 abbrev pub ChainsAreOperandsAndRests : Type 0
-ChainsAreOperandsAndRests = (G : Given) (side : Side) (used : BuilderUse) (operand separator p rest : ℕ) →
+ChainsAreOperandsAndRests = (G : Given) (side : Side) (used : ChainBuilder) (operand separator p rest : ℕ) →
     AreCopies G.grammar p operand → IsRest G.grammar operand separator rest → (a : Spot) →
     ((o : Outcome) (m : ℕ) → AnswersForm G (form.Chain side used operand separator) a o m →
     SomeRun G (form.Seq (p ∷ rest ∷ [])) a (λ q. AreAlike G side used.shape operand separator a o q))

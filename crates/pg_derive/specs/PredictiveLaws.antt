@@ -6,7 +6,7 @@ use Rattle.pg_grammar_value.specs.Grammar.{IsGrammar}
 use Rattle.pg_grammar_form.specs.declared.form.Form.TheVariants as form
 use Rattle.pg_grammar_form.specs.declared.side.Side.TheVariants as side
 use Rattle.pg_grammar_value.specs.declared.trail.TrailItem.{TrailItem}
-use Rattle.pg_grammar_form.specs.declared.used.BuilderUse.{BuilderUse}
+use Rattle.pg_grammar_form.specs.declared.used.ChainBuilder.{ChainBuilder}
 use Rattle.pg_language.specs.Derives.{Spot, Derives}
 use Rattle.pg_table.specs.Tables.{ComesFrom}
 use Rattle.pg_language.specs.Answers.{Given, Answers}
@@ -71,7 +71,7 @@ RoundsConsume = (G : Given) (sets : NodeSets) → Predicts G sets → EachRoundC
 
 -- each link of a chain, a separator with the operand after it, consumes
 abbrev pub EachLinkConsumes : Given → Type 0
-EachLinkConsumes G = (p q r : ℕ) (used : BuilderUse) →
+EachLinkConsumes G = (p q r : ℕ) (used : ChainBuilder) →
     ((slice_get G.grammar.nodes p ≡ Some (form.Chain side.Left used q r)) ⊎ (slice_get G.grammar.nodes p ≡ Some (form.Chain side.Right used q r))) →
     (a b c : Spot) (forest others : List Tree) (trail items : List TrailItem) →
     Derives G.grammar G.text r a b forest trail → Derives G.grammar G.text q b c others items → a.place < c.place

@@ -24,7 +24,7 @@ use Rattle.pg_derive_bound.proofs.Paid.{End, raised}
 use Rattle.pg_derive_bound.proofs.Parts.{PaidParts, PaidAlternatives}
 use Rattle.pg_derive_bound.proofs.RowSteps.{PaidOperand}
 use Rattle.pg_derive.proofs.StartLists.{contains_none, contains_cases}
-use Rattle.pg_grammar_form.specs.declared.used.BuilderUse.{BuilderUse}
+use Rattle.pg_grammar_form.specs.declared.used.ChainBuilder.{ChainBuilder}
 use Rattle.pg_derive_bound.proofs.Repeats.{PaidRounds, PaidChain}
 
 pub not_failed : {d : Bool} {b : Spot} {v : List Tree} {t : List TrailItem} {e f : Error} → ok d b v t e ≡ failed true f → ⊥
@@ -68,7 +68,7 @@ module _ (G : Given) (sets : NodeSets) (h : Predicts G sets) (c : Charges G.gram
       let climb = c.falls p q _ e f.falls in
       raised (nodes.fare G sets h c) 2 (omega arith) (omega arith) (omega arith) (λ u. f.empty) (bare_of G sets h (sets.first p) (Contains (sets.first q)) i f.first) (λ j none. none) x
 
-  pub enters_chain : (p q r : ℕ) (side : Side) (used : BuilderUse) (i : ℕ) (z : End) (m : ℕ) → slice_get G.grammar.nodes p ≡ Some (form.Chain side used q r) → PaidChain G sets h c p q r i z m → PaidNode p i z (suc m)
+  pub enters_chain : (p q r : ℕ) (side : Side) (used : ChainBuilder) (i : ℕ) (z : End) (m : ℕ) → slice_get G.grammar.nodes p ≡ Some (form.Chain side used q r) → PaidChain G sets h c p q r i z m → PaidNode p i z (suc m)
   enters_chain p q r side used i z m e x =
       let cost = c.costs p _ e in
       let size = c.sizes p _ e in

@@ -104,10 +104,7 @@ fn push_chain(
 /// Writes a chain of the other alternatives, with what stands between the operands as separators.
 fn write_chain(forms: &Forms, all: &Alternatives, draft: &mut Draft) {
     draft.write("chainl1(");
-    match builder(forms, all) {
-        Some(name) => draft.write_characters(name),
-        None => draft.write("list"),
-    }
+    write_builder(forms, all, draft);
     draft.write(", ");
     draft.write_group(forms, "choice(", &all.others);
     draft.write(", ");
@@ -115,14 +112,42 @@ fn write_chain(forms: &Forms, all: &Alternatives, draft: &mut Draft) {
     draft.write(")");
 }
 
-/// The builder of the first `build` that was left out, if one was.
-fn builder<'s>(forms: &Forms<'s>, all: &Alternatives) -> Option<&'s [char]> {
+/// Writes the builder of the first `build` that was left out, with its symbol, if one was.
+fn write_builder(forms: &Forms, all: &Alternatives, draft: &mut Draft) {
+    match first_build(all) {
+        Some(build) => {
+            write_name(forms, build, draft);
+            write_symbol(forms, build, draft);
+        }
+        None => draft.write("list"),
+    }
+}
+
+/// The first `build` that was left out, if one was.
+fn first_build(all: &Alternatives) -> Option<usize> {
     for level in &all.again {
         if let Some(build) = level.build {
-            return forms.characters(build, Kind::Build);
+            return Some(build);
         }
     }
     None
+}
+
+/// Writes the builder of a `build`.
+fn write_name(forms: &Forms, build: usize, draft: &mut Draft) {
+    match forms.characters(build, Kind::Build) {
+        Some(name) => draft.write_characters(name),
+        None => draft.write("list"),
+    }
+}
+
+/// Writes the symbol of a `build` behind its builder, if it has one.
+fn write_symbol(forms: &Forms, build: usize, draft: &mut Draft) {
+    let symbol = forms.symbol(build);
+    if !symbol.is_empty() {
+        draft.write(", ");
+        draft.write_literal(symbol);
+    }
 }
 
 /// Writes a choice of what follows the rule in the alternatives that begin with it. If `are_chained`, the operands at their ends are left out.

@@ -3,7 +3,7 @@
 //! A form is named by its number among all of them. The parts of a form are found by their spans: no two forms begin at the same place, and parts lie within
 //! the span of their form. A number that names no form has no parts and no text.
 
-use crate::kinds::{Kind, characters_of, kind_of};
+use crate::kinds::{Kind, characters_of, kind_of, symbol_of};
 use crate::rules::WrittenRule;
 use crate::spans::{item_spans, slice_of};
 use pg_file_items::{Item, PlacedForm, Span};
@@ -207,6 +207,14 @@ impl<'s> Forms<'s> {
         match self.nodes.get(form) {
             Some(node) if kind_of(&node.placed.form) == kind => characters_of(&node.placed.form),
             Some(_) | None => None,
+        }
+    }
+
+    /// The symbol of a `build`, or none.
+    pub fn symbol(&self, form: usize) -> &'s [char] {
+        match self.nodes.get(form) {
+            Some(node) => symbol_of(&node.placed.form),
+            None => &[],
         }
     }
 

@@ -83,3 +83,23 @@ pub(crate) fn characters_of(form: &WrittenForm) -> Option<&[char]> {
         | WrittenForm::EndOfText => None,
     }
 }
+
+/// The symbol of a `build`, or none.
+pub(crate) fn symbol_of(form: &WrittenForm) -> &[char] {
+    match form {
+        WrittenForm::Build { symbol, .. } => symbol.as_slice(),
+        WrittenForm::String(_)
+        | WrittenForm::Rule(_)
+        | WrittenForm::Word(_)
+        | WrittenForm::OfClass(_, _)
+        | WrittenForm::Seq(_)
+        | WrittenForm::OfSome(_, _)
+        | WrittenForm::OfOne(_)
+        | WrittenForm::OfTwo(_)
+        | WrittenForm::Between
+        | WrittenForm::Chain { .. }
+        | WrittenForm::Expression { .. }
+        | WrittenForm::Label(_)
+        | WrittenForm::EndOfText => &[],
+    }
+}

@@ -175,7 +175,7 @@ fn advice(tokens: &Tokens, number: usize) -> Option<&'static str> {
             "a literal isn't a value: write string(\"x\"), or satisfy(\"xyz\") for one of its characters",
         ),
         Some(Token::Literal(_)) if wanted == Wanted::Builder => Some(
-            "the builder comes first, then, in `build`, its symbol: build(node, \"x\", v)",
+            "the builder comes first, then, in `build` and chains, its symbol: build(node, \"x\", v)",
         ),
         Some(Token::Mark(Mark::Bar)) => Some(
             "write choice(v, w) for alternatives of values; `|` is for classes",

@@ -40,7 +40,7 @@ pub(crate) fn push_unknown(
         Wanted::Value => push_no_value(alloc, page, unknown),
         Wanted::Class => push_no_class(alloc, page, tokens, number, unknown),
         Wanted::Word => push_no_word(alloc, page, unknown),
-        Wanted::Builder => push_no_builder(alloc, page, unknown),
+        Wanted::Builder => push_no_builder(alloc, page, tokens, number, unknown),
         Wanted::Operators => push_line(
             page,
             "operators are used, but there is no `operators` item; add one, for example: operators \"+-\" gap \" \";",
@@ -182,10 +182,12 @@ fn push_word_item(
 fn push_no_builder(
     alloc: Global,
     page: &mut String,
+    tokens: &Tokens,
+    number: usize,
     unknown: Unknown<'_>,
 ) -> Result<(), AllocError> {
     push_builders(alloc, page, unknown.shown)?;
-    push_label(alloc, page, unknown.name)?;
+    push_label(alloc, page, chain_at(tokens, number), unknown.name)?;
     push_nearest_or(alloc, page, unknown.name, &[], &BUILDERS)
 }
 
@@ -197,11 +199,38 @@ fn push_builders(alloc: Global, page: &mut String, shown: &str) -> Result<(), Al
     push_line(page, words.as_str())
 }
 
-/// Appends how a name is written as a label.
-fn push_label(alloc: Global, page: &mut String, name: &[char]) -> Result<(), AllocError> {
-    let bare = bare(alloc, name)?;
-    let words = format!(in alloc; "write your own label as a symbol: build(node, \"{bare}\", v)")?;
+/// The word of the chain whose builder is the token with this number, if it is one's.
+fn chain_at(tokens: &Tokens, number: usize) -> Option<&'static str> {
+    let before = number.saturating_sub(2);
+    if tokens.is_word(before, "chainl1") {
+        Some("chainl1")
+    } else if tokens.is_word(before, "chainr1") {
+        Some("chainr1")
+    } else {
+        None
+    }
+}
+
+/// Appends how a name is written as a label, in a chain or around a value.
+fn push_label(
+    alloc: Global,
+    page: &mut String,
+    chain: Option<&str>,
+    name: &[char],
+) -> Result<(), AllocError> {
+    let words = label_words(alloc, chain, name)?;
     push_line(page, words.as_str())
+}
+
+/// How a name is written as a label.
+fn label_words(alloc: Global, chain: Option<&str>, name: &[char]) -> Result<String, AllocError> {
+    let bare = bare(alloc, name)?;
+    match chain {
+        Some(chain) => format!(in alloc;
+            "write your own label as a symbol: {chain}(node, \"{bare}\", v, s)"
+        ),
+        None => format!(in alloc; "write your own label as a symbol: build(node, \"{bare}\", v)"),
+    }
 }
 
 /// Appends the nearest name of a kind, if one is near.

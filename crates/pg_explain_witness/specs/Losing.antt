@@ -2,7 +2,7 @@
 use Rattle.std.specs.Prelude.{◌≡◌, ◌<◌, ◌+◌, ℕ, List, Some, slice_get}
 use Rattle.pg_grammar_form.specs.declared.form.Form.TheVariants as form
 use Rattle.pg_grammar_form.specs.declared.side.Side.{Side}
-use Rattle.pg_grammar_form.specs.declared.used.BuilderUse.{BuilderUse}
+use Rattle.pg_grammar_form.specs.declared.used.ChainBuilder.{ChainBuilder}
 use Rattle.pg_grammar_value.specs.Grammar.{Grammar}
 use Rattle.pg_grammar_value.specs.declared.trail.TrailItem.{TrailItem}
 use Rattle.pg_grammar_value.specs.declared.trail.TrailItem.TheVariants.{Alt}
@@ -40,7 +40,7 @@ pub record RoundsLose (G : Given) (table : Table) (trail : List TrailItem) (node
 -- the node is a chain. The run enters its separator at the place and a link consumes something, but the derivation ends the chain there
 pub record LinksLose (G : Given) (table : Table) (trail : List TrailItem) (node place : ℕ) : Type 0 where
   pub side : Side
-  pub used : BuilderUse
+  pub used : ChainBuilder
   pub operand : ℕ
   pub separator : ℕ
   pub chains : slice_get G.grammar.nodes node ≡ Some (form.Chain side used operand separator)
@@ -79,7 +79,7 @@ pub record ItemsPart (G : Given) (table : Table) (one other : List TrailItem) (n
 -- the rounds of the node begin with this part
 pub data BeginsRounds (g : Grammar) (node part : ℕ) : Type 0 where
   repeats : slice_get g.nodes node ≡ Some (form.Many part) → BeginsRounds g node part
-  separates : {side : Side} {used : BuilderUse} {operand : ℕ} → slice_get g.nodes node ≡ Some (form.Chain side used operand part) → BeginsRounds g node part
+  separates : {side : Side} {used : ChainBuilder} {operand : ℕ} → slice_get g.nodes node ≡ Some (form.Chain side used operand part) → BeginsRounds g node part
 
 -- at one place, the derivation with the one trail ends the rounds of the node, and the derivation with the other has one more
 pub record RoundsPart (G : Given) (table : Table) (one other : List TrailItem) (node : ℕ) : Type 0 where

@@ -2,7 +2,7 @@
 use Rattle.std.specs.Prelude.{◌≡◌, ℕ, Some, slice_get}
 use Rattle.pg_grammar_form.specs.declared.form.Form.TheVariants as form
 use Rattle.pg_grammar_form.specs.declared.side.Side.{Side}
-use Rattle.pg_grammar_form.specs.declared.used.BuilderUse.{BuilderUse}
+use Rattle.pg_grammar_form.specs.declared.used.ChainBuilder.{ChainBuilder}
 use Rattle.pg_table.specs.Tables.{Table}
 use Rattle.pg_language.specs.Answers.{Given}
 use Rattle.pg_machine_turns.specs.Spots.{spot_at}
@@ -20,7 +20,7 @@ pub record RoundIdles (G : Given) (table : Table) (node place : ℕ) : Type 0 wh
 -- the node is a chain. The run enters its separator at the place, where the separator and the operand after it are ok without consuming
 pub record LinkIdles (G : Given) (table : Table) (node place : ℕ) : Type 0 where
   pub side : Side
-  pub used : BuilderUse
+  pub used : ChainBuilder
   pub operand : ℕ
   pub separator : ℕ
   pub chains : slice_get G.grammar.nodes node ≡ Some (form.Chain side used operand separator)

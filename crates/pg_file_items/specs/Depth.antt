@@ -1,6 +1,6 @@
 -- How deep the parentheses of a tree nest.
 use Rattle.std.specs.Prelude.{◌≤◌, ℕ, suc, max}
-use Rattle.pg_file_items.specs.Tree.{Atom, Set, Range, Name, Not, Group, Class, Of, Atoms, No_atom, Or, Value, Of_class, String, Seq, Of_some, Of_one, Of_two, Between, Chain, Expression, Build, Build_symbol, Label, End_of_text, Word, Rule, Values, No_value, And, Item, Class_item, Word_item, Operators, Table, Start, Rule_item}
+use Rattle.pg_file_items.specs.Tree.{Atom, Set, Range, Name, Not, Group, Class, Of, Atoms, No_atom, Or, Value, Of_class, String, Seq, Of_some, Of_one, Of_two, Between, Chain, Chain_symbol, Expression, Build, Build_symbol, Label, End_of_text, Word, Rule, Values, No_value, And, Item, Class_item, Word_item, Operators, Table, Start, Rule_item}
 
 abbrev mutual
   pub atom_depth : Atom → ℕ
@@ -27,6 +27,7 @@ abbrev mutual
   depth (Of_two form v separator) = suc (max (depth v) (depth separator))
   depth (Between before after inner) = suc (max (depth before) (max (depth after) (depth inner)))
   depth (Chain form builder operand separator) = suc (max (depth operand) (depth separator))
+  depth (Chain_symbol form builder symbol operand separator) = suc (max (depth operand) (depth separator))
   depth (Expression infixes prefixes postfixes term) = suc (depth term)
   depth (Build builder v) = suc (depth v)
   depth (Build_symbol builder symbol v) = suc (depth v)

@@ -4,7 +4,7 @@ use Rattle.pg_file_items.specs.declared.written.WrittenPart.{WrittenPart}
 use Rattle.pg_file_items.specs.declared.written.WrittenPart.TheVariants as part
 use Rattle.pg_file_items.specs.declared.written.WrittenForm.{WrittenForm}
 use Rattle.pg_file_items.specs.declared.written.WrittenForm.TheVariants as written
-use Rattle.pg_file_items.specs.Tree.{Atom, Set, Range, Name, Not, Group, Class, Of, Atoms, No_atom, Or, Value, Of_class, String, Seq, Of_some, Of_one, Of_two, Between, Chain, Expression, Build, Build_symbol, Label, End_of_text, Word, Rule, Values, No_value, And, Item, Class_item, Word_item, Operators, Table, Start, Rule_item}
+use Rattle.pg_file_items.specs.Tree.{Atom, Set, Range, Name, Not, Group, Class, Of, Atoms, No_atom, Or, Value, Of_class, String, Seq, Of_some, Of_one, Of_two, Between, Chain, Chain_symbol, Expression, Build, Build_symbol, Label, End_of_text, Word, Rule, Values, No_value, And, Item, Class_item, Word_item, Operators, Table, Start, Rule_item}
 use Rattle.pg_file_items.specs.Proper.{value_of}
 use Rattle.pg_file_items.specs.Entries.{Entry, class, word, operators, table, start, rule}
 
@@ -45,7 +45,8 @@ abbrev mutual
   heads (Of_one form v) = written.OfOne form ∷ heads v
   heads (Of_two form v separator) = written.OfTwo form ∷ (heads v ++ heads separator)
   heads (Between before after inner) = written.Between ∷ (heads before ++ (heads after ++ heads inner))
-  heads (Chain form builder operand separator) = written.Chain form builder ∷ (heads operand ++ heads separator)
+  heads (Chain form builder operand separator) = written.Chain form builder [] ∷ (heads operand ++ heads separator)
+  heads (Chain_symbol form builder symbol operand separator) = written.Chain form builder symbol ∷ (heads operand ++ heads separator)
   heads (Expression infixes prefixes postfixes term) = written.Expression infixes prefixes postfixes ∷ heads term
   heads (Build builder v) = written.Build builder [] ∷ heads v
   heads (Build_symbol builder symbol v) = written.Build builder symbol ∷ heads v

@@ -5,7 +5,7 @@ use Rattle.std.specs.Str.{bytes_eq}
 use Rattle.std.specs.Str.Parse.{digits_value}
 use Rattle.std.specs.Char.{is_digit}
 use Rattle.pg_file_tokens.specs.Lexical.{passes}
-use Rattle.pg_file_items.specs.Tree.{Atom, Set, Range, Name, Not, Group, Class, Of, Atoms, No_atom, Or, Value, Of_class, String, Seq, Of_some, Of_one, Of_two, Between, Chain, Expression, Build, Build_symbol, Label, End_of_text, Word, Rule, Values, No_value, And, Item, Class_item, Word_item, Operators, Table, Start, Rule_item}
+use Rattle.pg_file_items.specs.Tree.{Atom, Set, Range, Name, Not, Group, Class, Of, Atoms, No_atom, Or, Value, Of_class, String, Seq, Of_some, Of_one, Of_two, Between, Chain, Chain_symbol, Expression, Build, Build_symbol, Label, End_of_text, Word, Rule, Values, No_value, And, Item, Class_item, Word_item, Operators, Table, Start, Rule_item}
 
 -- the words that may not name a rule, a class or a word
 abbrev pub reserved_words : List (List ℕ)
@@ -62,6 +62,7 @@ abbrev mutual
   IsProper (Of_two form v separator) = IsProper v × IsProper separator
   IsProper (Between before after inner) = IsProper before × IsProper after × IsProper inner
   IsProper (Chain form builder operand separator) = IsBuilderName builder × IsProper operand × IsProper separator
+  IsProper (Chain_symbol form builder symbol operand separator) = IsBuilderName builder × IsLiteral symbol × IsProper operand × IsProper separator
   IsProper (Expression infixes prefixes postfixes term) = IsBuilderName infixes × IsBuilderName prefixes × IsBuilderName postfixes × IsProper term
   IsProper (Build builder v) = IsBuilderName builder × IsProper v
   IsProper (Build_symbol builder symbol v) = IsBuilderName builder × IsLiteral symbol × IsProper v

@@ -14,7 +14,7 @@ use Rattle.pg_grammar_form.specs.declared.side.Side.{Side}
 use Rattle.pg_grammar_form.specs.declared.side.Side.TheVariants.{Left, Right}
 use Rattle.pg_file_tokens.specs.declared.token.Mark.TheVariants.{Open, Close, Comma, Semicolon, Equals, Bar, Dots}
 use Rattle.pg_file_tokens.specs.Tokens.{Token, name, number, literal, mark}
-use Rattle.pg_file_items.specs.Tree.{Atom, Set, Range, Name, Not, Group, Class, Of, Atoms, No_atom, Or, Value, Of_class, String, Seq, Of_some, Of_one, Of_two, Between, Chain, Expression, Build, Build_symbol, Label, End_of_text, Word, Rule, Values, No_value, And, Item, Class_item, Word_item, Operators, Table, Start, Rule_item}
+use Rattle.pg_file_items.specs.Tree.{Atom, Set, Range, Name, Not, Group, Class, Of, Atoms, No_atom, Or, Value, Of_class, String, Seq, Of_some, Of_one, Of_two, Between, Chain, Chain_symbol, Expression, Build, Build_symbol, Label, End_of_text, Word, Rule, Values, No_value, And, Item, Class_item, Word_item, Operators, Table, Start, Rule_item}
 
 -- ---- words
 
@@ -87,6 +87,8 @@ abbrev mutual
       opened (codes "between") (written before (mark Comma ∷ written after (mark Comma ∷ written inner (mark Close ∷ rest))))
   written (Chain side builder operand separator) rest =
       opened (chain_word side) (name builder ∷ mark Comma ∷ written operand (mark Comma ∷ written separator (mark Close ∷ rest)))
+  written (Chain_symbol side builder symbol operand separator) rest =
+      opened (chain_word side) (name builder ∷ mark Comma ∷ literal symbol ∷ mark Comma ∷ written operand (mark Comma ∷ written separator (mark Close ∷ rest)))
   written (Expression infixes prefixes postfixes term) rest =
       opened (codes "expr") (name infixes ∷ mark Comma ∷ name prefixes ∷ mark Comma ∷ name postfixes ∷ mark Comma ∷ written term (mark Close ∷ rest))
   written (Build builder v) rest = opened (codes "build") (name builder ∷ mark Comma ∷ written v (mark Close ∷ rest))

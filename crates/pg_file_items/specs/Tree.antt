@@ -35,6 +35,7 @@ mutual
     Of_two : TwoForm → Value → Value → Value
     Between : (before after inner : Value) → Value
     Chain : Side → (builder : List ℕ) → (operand separator : Value) → Value
+    Chain_symbol : Side → (builder symbol : List ℕ) → (operand separator : Value) → Value
     Expression : (infixes prefixes postfixes : List ℕ) → (term : Value) → Value
     Build : (builder : List ℕ) → Value → Value
     Build_symbol : (builder symbol : List ℕ) → Value → Value

@@ -79,10 +79,11 @@ pub enum WrittenForm {
     OfTwo(TwoForm),
     /// A form before, a form after, and the part between them.
     Between,
-    /// A chain of operands and separators.
+    /// A chain of operands and separators. The symbol is empty if none is written.
     Chain {
         side: Side,
         builder: Characters,
+        symbol: Characters,
     },
     /// Operators around a term, with a builder for each position of an operator.
     Expression {

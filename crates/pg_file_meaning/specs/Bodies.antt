@@ -15,7 +15,7 @@ use Rattle.pg_file_items.specs.declared.written.WrittenPart.TheVariants as part
 use Rattle.pg_file_items.specs.declared.written.WrittenForm.{WrittenForm}
 use Rattle.pg_file_items.specs.declared.written.WrittenForm.TheVariants as written
 use Rattle.pg_file_items.specs.Sizes.{part_count}
-use Rattle.pg_file_meaning.specs.Names.{builder_named, class_named}
+use Rattle.pg_file_meaning.specs.Names.{builder_named, chain_builder_named, class_named}
 use Rattle.pg_file_meaning.specs.Meaning.{Body, seq_of, some_of, one_of, two_of, between_of, class_of, chain_of, builders_named}
 
 -- a part of a class expression, with its name looked up
@@ -46,7 +46,7 @@ body_of_form offer classes (written.OfSome form n) bodies = some_of form bodies
 body_of_form offer classes (written.OfOne form) bodies = one_of form (body_at 0 bodies)
 body_of_form offer classes (written.OfTwo form) bodies = two_of form (body_at 0 bodies) (body_at 1 bodies)
 body_of_form offer classes written.Between bodies = between_of (body_at 0 bodies) (body_at 1 bodies) (body_at 2 bodies)
-body_of_form offer classes (written.Chain form builder) bodies = chain_of form (builder_named offer builder) ∷ (body_at 0 bodies ++ body_at 1 bodies)
+body_of_form offer classes (written.Chain side builder symbol) bodies = chain_of side (chain_builder_named offer builder symbol) ∷ (body_at 0 bodies ++ body_at 1 bodies)
 body_of_form offer classes (written.Expression infixes prefixes postfixes) bodies = form.Expression (builders_named offer infixes prefixes postfixes) (record {}) ∷ body_at 0 bodies
 body_of_form offer classes (written.Build builder symbol) bodies = form.Around (around.Build (builder_named offer builder) (encode_utf8_all symbol)) (record {}) ∷ body_at 0 bodies
 body_of_form offer classes (written.Label message) bodies = form.Around (around.Label message) (record {}) ∷ body_at 0 bodies

@@ -11,7 +11,7 @@ use Rattle.pg_grammar_form.specs.declared.form.Form.TheVariants as form
 use Rattle.pg_grammar_form.specs.declared.form.Leaf.TheVariants as leaf
 use Rattle.pg_grammar_form.specs.declared.form.Around.TheVariants as around
 use Rattle.pg_grammar_form.specs.declared.side.Side.{Side}
-use Rattle.pg_grammar_form.specs.declared.used.BuilderUse.{BuilderUse}
+use Rattle.pg_grammar_form.specs.declared.used.ChainBuilder.{ChainBuilder}
 use Rattle.pg_grammar_form.specs.declared.used.OperatorBuilders.{OperatorBuilders}
 use Rattle.pg_file_items.specs.Joined.{joined}
 use Rattle.pg_file_items.specs.declared.words.ClassForm.{ClassForm}
@@ -22,8 +22,8 @@ use Rattle.pg_file_items.specs.declared.words.OneForm.{OneForm}
 use Rattle.pg_file_items.specs.declared.words.OneForm.TheVariants as one_form
 use Rattle.pg_file_items.specs.declared.words.TwoForm.{TwoForm}
 use Rattle.pg_file_items.specs.declared.words.TwoForm.TheVariants as two_form
-use Rattle.pg_file_items.specs.Tree.{Atom, Set, Range, Name, Not, Group, Class, Of, Atoms, No_atom, Or, Value, Of_class, String, Seq, Of_some, Of_one, Of_two, Between, Chain, Expression, Build, Build_symbol, Label, End_of_text, Word, Rule, Values, No_value, And}
-use Rattle.pg_file_meaning.specs.Names.{builder_named, class_named}
+use Rattle.pg_file_items.specs.Tree.{Atom, Set, Range, Name, Not, Group, Class, Of, Atoms, No_atom, Or, Value, Of_class, String, Seq, Of_some, Of_one, Of_two, Between, Chain, Chain_symbol, Expression, Build, Build_symbol, Label, End_of_text, Word, Rule, Values, No_value, And}
+use Rattle.pg_file_meaning.specs.Names.{builder_named, chain_builder_named, class_named}
 
 -- the base forms of a body, in preorder
 abbrev pub Body : Type 0
@@ -112,7 +112,7 @@ class_of class_form.NotFollowedBy class = form.Leaf (leaf.NotFollowedBy class)
 class_of class_form.Declare class = form.Leaf (leaf.Declare class)
 
 -- a chain, folded from a side by a builder
-abbrev pub chain_of : Side → BuilderUse → BaseForm
+abbrev pub chain_of : Side → ChainBuilder → BaseForm
 chain_of side used = form.Chain side used (record {}) (record {})
 
 -- the builders of an expression
@@ -135,7 +135,9 @@ abbrev mutual
   meant offer classes (Of_one form v) = one_of form (meant offer classes v)
   meant offer classes (Of_two form v separator) = two_of form (meant offer classes v) (meant offer classes separator)
   meant offer classes (Between before after inner) = between_of (meant offer classes before) (meant offer classes after) (meant offer classes inner)
-  meant offer classes (Chain form builder operand separator) = chain_of form (builder_named offer builder) ∷ (meant offer classes operand ++ meant offer classes separator)
+  meant offer classes (Chain side builder operand separator) = chain_of side (chain_builder_named offer builder []) ∷ (meant offer classes operand ++ meant offer classes separator)
+  meant offer classes (Chain_symbol side builder symbol operand separator) =
+      chain_of side (chain_builder_named offer builder symbol) ∷ (meant offer classes operand ++ meant offer classes separator)
   meant offer classes (Expression infixes prefixes postfixes term) = form.Expression (builders_named offer infixes prefixes postfixes) (record {}) ∷ meant offer classes term
   meant offer classes (Build builder v) = form.Around (around.Build (builder_named offer builder) []) (record {}) ∷ meant offer classes v
   meant offer classes (Build_symbol builder symbol v) = form.Around (around.Build (builder_named offer builder) (encode_utf8_all symbol)) (record {}) ∷ meant offer classes v

@@ -5,11 +5,13 @@ use Rattle.std.specs.Option.{is_some}
 use Rattle.std.specs.Str.{encode_utf8_all}
 use Rattle.pg_tree.specs.declared.shape.Shape.TheVariants.{Symbol}
 use Rattle.pg_pred.specs.Offer.{Offer, predicate_class, builder_shape}
+use Rattle.pg_grammar_form.specs.Chains.{handed}
 use Rattle.pg_grammar_form.specs.Names.{Name, has_name, place_of_name}
 use Rattle.pg_grammar_form.specs.declared.class.ClassPart.{ClassPart}
 use Rattle.pg_grammar_form.specs.declared.class.ClassPart.TheVariants as class
 use Rattle.pg_grammar_form.specs.declared.used.PredicateUse.{PredicateUse}
 use Rattle.pg_grammar_form.specs.declared.used.BuilderUse.{BuilderUse}
+use Rattle.pg_grammar_form.specs.declared.used.ChainBuilder.{ChainBuilder}
 use Rattle.pg_file_items.specs.declared.written.WrittenPart.{WrittenPart}
 use Rattle.pg_file_items.specs.declared.written.WrittenPart.TheVariants as part
 use Rattle.pg_file_items.specs.declared.written.WrittenForm.{WrittenForm}
@@ -22,6 +24,10 @@ predicate_named offer s = record { name = encode_utf8_all s; class = unwrap_or (
 -- the offered builder with a name
 abbrev pub builder_named : Offer → Name → BuilderUse
 builder_named offer s = record { name = encode_utf8_all s; shape = unwrap_or (builder_shape offer (encode_utf8_all s)) Symbol }
+
+-- the offered builder with a name, handed a chain's symbol
+abbrev pub chain_builder_named : Offer → (builder symbol : Name) → ChainBuilder
+chain_builder_named offer s symbol = handed (builder_named offer s) (encode_utf8_all symbol)
 
 -- the class item with a number, or otherwise the predicate with the name
 abbrev pub item_or_predicate : Offer → Name → Option ℕ → ClassPart
@@ -71,7 +77,7 @@ FormIsKnown offer classes (written.OfSome form n) = Unit {0}
 FormIsKnown offer classes (written.OfOne form) = Unit {0}
 FormIsKnown offer classes (written.OfTwo form) = Unit {0}
 FormIsKnown offer classes written.Between = Unit {0}
-FormIsKnown offer classes (written.Chain form builder) = BuilderIsKnown offer builder
+FormIsKnown offer classes (written.Chain form builder symbol) = BuilderIsKnown offer builder
 FormIsKnown offer classes (written.Expression infixes prefixes postfixes) = BuilderIsKnown offer infixes × BuilderIsKnown offer prefixes × BuilderIsKnown offer postfixes
 FormIsKnown offer classes (written.Build builder symbol) = BuilderIsKnown offer builder
 FormIsKnown offer classes (written.Label message) = Unit {0}

@@ -15,7 +15,7 @@ use crate::error::MakingError;
 use pg_file_items::{WrittenClass, WrittenPart};
 use pg_file_tokens::copied;
 use pg_grammar_form::{
-    BuilderUse, ClassExpression, ClassId, ClassPart, OperatorBuilders, PredicateUse,
+    BuilderUse, ChainBuilder, ClassExpression, ClassId, ClassPart, OperatorBuilders, PredicateUse,
 };
 use pg_pred::Registry;
 use pg_text::{Characters, utf8};
@@ -91,6 +91,22 @@ pub fn builder_named(
         }
         None => Err(MakingError::Refused),
     }
+}
+
+/// The builder with this name, handed a chain's symbol. Refused if there is none.
+pub fn chain_builder_named(
+    alloc: Global,
+    registry: &Registry,
+    name: &[char],
+    symbol: &[char],
+) -> Result<ChainBuilder, MakingError>
+    ensures used { IfOk result (λ used. used ≡ names.chain_builder_named (offer_of registry.now) name.now symbol.now) }
+    ensures known { OnOk result (is_builder_name (offer_of registry.now) name.now ≡ true) }
+    ensures refused { IsErrOf result MakingError.Refused → is_builder_name (offer_of registry.now) name.now ≡ false }
+{
+    let used = builder_named(alloc, registry, name)?;
+    let symbol = label(alloc, symbol)?;
+    Ok(ChainBuilder::new(alloc, used, symbol)?)
 }
 
 /// The names of an expression's builders, one for each position of an operator (ours).

@@ -11,7 +11,7 @@ ghost use Rattle.pg_file_items.specs.Entries.{forms_of};
 ghost use Rattle.pg_grammar_form.specs.declared.form.Form.TheVariants as form;
 ghost use Rattle.pg_grammar_form.specs.declared.form.Leaf.TheVariants as leaf;
 ghost use Rattle.pg_grammar_form.specs.declared.form.Around.TheVariants as around;
-ghost use Rattle.pg_file_meaning.specs.Names.{builder_named, BuilderIsKnown, ClassIsKnown, FormIsKnown};
+ghost use Rattle.pg_file_meaning.specs.Names.{builder_named, chain_builder_named, BuilderIsKnown, ClassIsKnown, FormIsKnown};
 ghost use Rattle.pg_file_meaning.specs.Meaning as meaning;
 ghost use Rattle.pg_file_items.specs.Sizes.{part_count};
 ghost use Rattle.pg_file_meaning.specs.Spans.{all_spans_of, before_spans, between_spans, one_spans, some_spans, spans_at, spans_of, spans_of_form, two_spans, value_spans};
@@ -19,7 +19,9 @@ ghost use Rattle.pg_file_meaning.specs.Bodies.{bases_of, all_bases_of, body_at, 
 
 use crate::body::{PlacedBase, before_all, between_of, one_of, seq_of, single, some_of, two_of};
 use crate::error::MakingError;
-use crate::lookup::{BuilderNames, builder_named, builders_named, class_meant, label};
+use crate::lookup::{
+    BuilderNames, builder_named, builders_named, chain_builder_named, class_meant, label,
+};
 use pg_file_items::{
     ClassForm, OneForm, PlacedForm, SomeForm, Span, TwoForm, WrittenClass, WrittenForm,
 };
@@ -228,22 +230,30 @@ fn class_body(
     Ok(single(alloc, class_of(form, class), span)?)
 }
 
+/// A builder's name and its symbol, as they are written.
+#[derive(Clone, Copy)]
+struct WrittenBuilder<'n> {
+    name: &'n Characters,
+    symbol: &'n Characters,
+}
+
 /// A chain of the first two waiting bodies. Refused if no builder has the name.
 fn chain_body(
     alloc: Global,
     registry: &Registry,
     side: Side,
-    builder: &Characters,
+    written: &WrittenBuilder<'_>,
     span: Span,
     waiting: &mut VecDeque<Vec<PlacedBase>>,
 ) -> Result<Vec<PlacedBase>, MakingError>
-    ensures meant { IfOk result (λ body. bases_of body.items ≡ meaning.chain_of side (builder_named (offer_of registry.now) builder.now) ∷ (body_at 0 (all_bases_of waiting.old.items) ++ body_at 1 (all_bases_of waiting.old.items))) }
+    ensures meant { IfOk result (λ body. bases_of body.items ≡ meaning.chain_of side (chain_builder_named (offer_of registry.now) written.now.name.now written.now.symbol.now) ∷ (body_at 0 (all_bases_of waiting.old.items) ++ body_at 1 (all_bases_of waiting.old.items))) }
     ensures spans { IfOk result (λ body. spans_of body.items ≡ span ∷ (spans_at 0 (all_spans_of waiting.old.items) ++ spans_at 1 (all_spans_of waiting.old.items))) }
     ensures rest { OnOk result (waiting.new.items ≡ drop 2 waiting.old.items) }
-    ensures known { OnOk result (BuilderIsKnown (offer_of registry.now) builder.now) }
-    ensures refused { IsErrOf result MakingError.Refused → BuilderIsKnown (offer_of registry.now) builder.now → ⊥ }
+    ensures known { OnOk result (BuilderIsKnown (offer_of registry.now) written.now.name.now) }
+    ensures refused { IsErrOf result MakingError.Refused → BuilderIsKnown (offer_of registry.now) written.now.name.now → ⊥ }
 {
-    let used = builder_named(alloc, registry, builder.as_slice())?;
+    let (name, symbol) = (written.name.as_slice(), written.symbol.as_slice());
+    let used = chain_builder_named(alloc, registry, name, symbol)?;
     let parts = next_two(alloc, waiting)?;
     let chain = Form::Chain(side, used, NextForm, NextForm);
     Ok(before_all(chain, span, parts)?)
@@ -370,8 +380,16 @@ fn body_of_form(
         WrittenForm::OfOne(form) => one_body(alloc, *form, span, waiting),
         WrittenForm::OfTwo(form) => two_body(alloc, *form, span, waiting),
         WrittenForm::Between => between_body(alloc, span, waiting),
-        WrittenForm::Chain { side, builder } => {
-            chain_body(alloc, registry, *side, builder, span, waiting)
+        WrittenForm::Chain {
+            side,
+            builder,
+            symbol,
+        } => {
+            let written = WrittenBuilder {
+                name: builder,
+                symbol,
+            };
+            chain_body(alloc, registry, *side, &written, span, waiting)
         }
         WrittenForm::Expression {
             infix,

@@ -256,11 +256,6 @@ builder_at ts = do
   rest ← mark_at Comma s.1
   Some (builder, rest)
 
-abbrev pub chain_head_at : Side → Reader WrittenForm
-chain_head_at side ts = do
-  builder ← builder_at ts
-  Some (written.Chain side builder.0, builder.1)
-
 abbrev pub expression_head_at : Reader WrittenForm
 expression_head_at ts = do
   infixes ← builder_at ts
@@ -279,6 +274,12 @@ written_symbol_at ts = do
 -- a builder's symbol and the comma after it, if a literal is at the front
 abbrev pub symbol_at : Reader (List ℕ)
 symbol_at ts = if has_literal ts then written_symbol_at ts else Some ([], ts)
+
+abbrev pub chain_head_at : Side → Reader WrittenForm
+chain_head_at side ts = do
+  builder ← builder_at ts
+  symbol ← symbol_at builder.1
+  Some (written.Chain side builder.0 symbol.0, symbol.1)
 
 abbrev pub build_head_at : Reader WrittenForm
 build_head_at ts = do

@@ -105,7 +105,15 @@ pub fn chain_head<'a>(
     ensures rest { IfOk result (λ x. EndsWith tokens.now x.1.now) }
 {
     let (builder, rest) = builder(alloc, tokens, names)?;
-    Ok((WrittenForm::Chain { side, builder }, rest))
+    let (symbol, rest) = symbol(alloc, rest)?;
+    Ok((
+        WrittenForm::Chain {
+            side,
+            builder,
+            symbol,
+        },
+        rest,
+    ))
 }
 
 /// An `expr`, up to its term.

@@ -18,12 +18,13 @@ use Rattle.pg_grammar_form.specs.declared.form.Leaf.{Leaf}
 use Rattle.pg_grammar_form.specs.declared.form.Leaf.TheVariants as leaf
 use Rattle.pg_grammar_form.specs.declared.form.Around.{Around}
 use Rattle.pg_grammar_form.specs.declared.form.Around.TheVariants as around
+use Rattle.pg_grammar_form.specs.declared.side.Side.{Side}
 use Rattle.pg_grammar_form.specs.declared.operators_item.OperatorsItem.{OperatorsItem}
 use Rattle.pg_grammar_form.specs.declared.word_item.WordItem.{WordItem}
 use Rattle.pg_file_items.specs.declared.words.ClassForm.TheVariants as class_form
 use Rattle.pg_file_items.specs.declared.words.SomeForm.TheVariants as some_form
 use Rattle.pg_file_items.specs.declared.words.OneForm.TheVariants as one_form
-use Rattle.pg_file_items.specs.Tree.{Atom, Set, Range, Name, Not, Group, Class, Of, Atoms, No_atom, Or, Value, Of_class, String, Seq, Of_some, Of_one, Chain, Expression, Build, Build_symbol, Label, End_of_text, Word, Rule, Values, No_value, And, Item, Class_item, Word_item, Operators, Table, Start, Rule_item}
+use Rattle.pg_file_items.specs.Tree.{Atom, Set, Range, Name, Not, Group, Class, Of, Atoms, No_atom, Or, Value, Of_class, String, Seq, Of_some, Of_one, Chain, Chain_symbol, Expression, Build, Build_symbol, Label, End_of_text, Word, Rule, Values, No_value, And, Item, Class_item, Word_item, Operators, Table, Start, Rule_item}
 
 -- ---- class expressions
 
@@ -89,6 +90,11 @@ abbrev pub build_from : List ℕ → List ℕ → Value → Value
 build_from builder [] v = Build builder v
 build_from builder (c ∷ symbol) v = Build_symbol builder (c ∷ symbol) v
 
+-- a chain with its symbol, which is omitted if it is empty
+abbrev pub chain_from : Side → List ℕ → List ℕ → Value → Value → Value
+chain_from side builder [] operand separator = Chain side builder operand separator
+chain_from side builder (c ∷ symbol) operand separator = Chain_symbol side builder (c ∷ symbol) operand separator
+
 -- the value of a leaf, given the names of the class items
 abbrev pub leaf_value : List names.Name → Leaf names.Name → Value
 leaf_value items (leaf.Satisfy class) = Of_class class_form.Satisfy (class_from items class)
@@ -113,7 +119,7 @@ value_of_form items (form.Leaf leaf) parts = leaf_value items leaf
 value_of_form items (form.Seq n) parts = Seq (values_from parts)
 value_of_form items (form.Choice n) parts = choice_from parts
 value_of_form items (form.Many part) parts = Of_one one_form.Many (value_at 0 parts)
-value_of_form items (form.Chain side used operand separator) parts = Chain side (chars used.name) (value_at 0 parts) (value_at 1 parts)
+value_of_form items (form.Chain side used operand separator) parts = chain_from side (chars used.name) (chars used.symbol) (value_at 0 parts) (value_at 1 parts)
 value_of_form items (form.Rule s) parts = Rule s
 value_of_form items (form.Expression builders part) parts = Expression (chars builders.«infix».name) (chars builders.prefix.name) (chars builders.postfix.name) (value_at 0 parts)
 value_of_form items (form.Around around part) parts = around_value around (value_at 0 parts)

@@ -16,7 +16,7 @@ use Rattle.pg_grammar_form.specs.declared.form.Leaf.TheVariants as leaf
 use Rattle.pg_grammar_form.specs.declared.form.Around.{Around}
 use Rattle.pg_grammar_form.specs.declared.form.Around.TheVariants as around
 use Rattle.pg_grammar_form.specs.declared.side.Side.{Side}
-use Rattle.pg_grammar_form.specs.declared.used.BuilderUse.{BuilderUse}
+use Rattle.pg_grammar_form.specs.declared.used.ChainBuilder.{ChainBuilder}
 use Rattle.pg_grammar_form.specs.declared.used.OperatorBuilders.{OperatorBuilders}
 use Rattle.pg_file_items.specs.declared.words.ClassForm.{ClassForm}
 use Rattle.pg_file_items.specs.declared.words.ClassForm.TheVariants as class_form
@@ -183,8 +183,8 @@ around_piece (around.Build used symbol) = form_piece (codes "build") (builder_to
 around_piece (around.Label message) = label_piece message
 around_piece around.Local = form_piece (codes "local") [] 1
 
-abbrev pub chain_piece : Side → BuilderUse → Piece
-chain_piece side used = form_piece (chain_word side) (builder_tokens (chars used.name) []) 2
+abbrev pub chain_piece : Side → ChainBuilder → Piece
+chain_piece side used = form_piece (chain_word side) (builder_tokens (chars used.name) (chars used.symbol)) 2
 
 abbrev pub base_piece : List names.Name → BaseForm → Piece
 base_piece items (form.Leaf leaf) = leaf_piece items leaf

@@ -5,7 +5,7 @@ use Rattle.std.specs.List.{AllByRecursion, flat_map}
 use Rattle.std.specs.Str.{encode_utf8_all}
 use Rattle.std.specs.Fmt.{digits}
 use Rattle.pg_grammar_value.specs.Grammar.{Grammar}
-use Rattle.pg_file_items.specs.Tree.{Atom, Set, Range, Name, Not, Group, Class, Of, Atoms, No_atom, Or, Value, Of_class, String, Seq, Of_some, Of_one, Of_two, Between, Chain, Expression, Build, Build_symbol, Label, End_of_text, Word, Rule, Values, No_value, And, Item, Class_item, Word_item, Operators, Table, Start, Rule_item}
+use Rattle.pg_file_items.specs.Tree.{Atom, Set, Range, Name, Not, Group, Class, Of, Atoms, No_atom, Or, Value, Of_class, String, Seq, Of_some, Of_one, Of_two, Between, Chain, Chain_symbol, Expression, Build, Build_symbol, Label, End_of_text, Word, Rule, Values, No_value, And, Item, Class_item, Word_item, Operators, Table, Start, Rule_item}
 use Rattle.pg_file_items.specs.Syntax.{class_word, some_word, one_word, two_word, chain_word, role_word}
 use Rattle.pg_file_items.specs.Depth.{IsShallow}
 use Rattle.pg_file_print.specs.Canonical.{items_of}
@@ -72,6 +72,8 @@ abbrev mutual
       form_text (codes "between") (with_more (value_text before) (with_more (value_text after) (value_text inner)))
   value_text (Chain side builder operand separator) =
       form_text (chain_word side) (with_more builder (with_more (value_text operand) (value_text separator)))
+  value_text (Chain_symbol side builder symbol operand separator) =
+      form_text (chain_word side) (with_more builder (with_more (quoted symbol) (with_more (value_text operand) (value_text separator))))
   value_text (Expression infixes prefixes postfixes term) =
       form_text (codes "expr") (with_more infixes (with_more prefixes (with_more postfixes (value_text term))))
   value_text (Build builder v) = form_text (codes "build") (with_more builder (value_text v))

@@ -17,7 +17,8 @@ use crate::layout::Layout;
 use crate::levels::{Ending, Level, enter, put_end};
 use pg_file_tokens::{Mark, copied};
 use pg_grammar_form::{
-    Around, BuilderUse, ClassExpression, Form, Leaf, Node, OperatorBuilders, RuleId, Side, WordId,
+    Around, BuilderUse, ChainBuilder, ClassExpression, Form, Leaf, Node, OperatorBuilders, RuleId,
+    Side, WordId,
 };
 use pg_grammar_value::Grammar;
 use pg_text::{Characters, characters_of};
@@ -217,25 +218,27 @@ fn put_rule(
 }
 
 /// Prints a builder and the comma after it.
-fn put_builder(alloc: Global, out: &mut Layout, used: &BuilderUse) -> Result<(), AllocError>
-    ensures { OnOk result (out.new ≡ with_tokens out.old (builder_tokens (chars used.now.name) [])) }
+fn put_builder(alloc: Global, out: &mut Layout, name: &str) -> Result<(), AllocError>
+    ensures { OnOk result (out.new ≡ with_tokens out.old (builder_tokens (chars name.now) [])) }
 {
-    out.put_text(alloc, used.name.as_str())?;
+    out.put_text(alloc, name)?;
     out.put_mark(Mark::Comma)
 }
 
+#[tactic(auto, using(crate::proofs::PrinterLemmas::Tokens::laid_both))]
 fn put_chain(
     alloc: Global,
     out: &mut Layout,
     side: Side,
-    used: &BuilderUse,
+    used: &ChainBuilder,
     levels: &mut VecDeque<Level>,
 ) -> Result<(), AllocError>
     ensures text { OnOk result (out.new ≡ with_piece out.old (chain_piece side used.now) levels.old.items) }
     ensures levels { OnOk result (levels.new.items ≡ levels_after (chain_piece side used.now) levels.old.items) }
 {
     put_opened(alloc, out, chain_word(side))?;
-    put_builder(alloc, out, used)?;
+    put_builder(alloc, out, used.name.as_str())?;
+    put_symbol(alloc, out, used.symbol.as_str())?;
     enter(alloc, out, levels, 2, Mark::Comma, Ending::Close)
 }
 
@@ -259,9 +262,9 @@ fn put_expression(
     ensures levels { OnOk result (levels.new.items ≡ levels_after (expression_piece builders.now) levels.old.items) }
 {
     put_opened(alloc, out, "expr")?;
-    put_builder(alloc, out, &builders.infix)?;
-    put_builder(alloc, out, &builders.prefix)?;
-    put_builder(alloc, out, &builders.postfix)?;
+    put_builder(alloc, out, builders.infix.name.as_str())?;
+    put_builder(alloc, out, builders.prefix.name.as_str())?;
+    put_builder(alloc, out, builders.postfix.name.as_str())?;
     enter(alloc, out, levels, 1, Mark::Comma, Ending::Close)
 }
 
@@ -291,7 +294,7 @@ fn put_build(
     ensures levels { OnOk result (levels.new.items ≡ levels_after (form_piece (codes "build") (builder_tokens (chars used.now.name) (chars symbol.now)) 1) levels.old.items) }
 {
     put_opened(alloc, out, "build")?;
-    put_builder(alloc, out, used)?;
+    put_builder(alloc, out, used.name.as_str())?;
     put_symbol(alloc, out, symbol)?;
     enter(alloc, out, levels, 1, Mark::Comma, Ending::Close)
 }

@@ -8,7 +8,7 @@ ghost use Rattle.std.specs.List.{list_any};
 ghost use Rattle.std.specs.Option.{option_map_or};
 ghost use Rattle.pg_grammar_form.specs.Classes.{descends, is_long, lacks_item};
 ghost use Rattle.pg_grammar_form.specs.Contents.{class_parts, builders_in, is_declaration, leaf_in, literal_in, name_in, word_in, all_builders};
-ghost use Rattle.pg_grammar_form.specs.Forms.{has_bad_literal, has_long_name, has_long_text, has_unknown_name, has_unknown_class, is_empty_string, uses_operators};
+ghost use Rattle.pg_grammar_form.specs.Forms.{has_bad_literal, has_long_chain, has_long_name, has_long_text, has_unknown_name, has_unknown_class, is_empty_string, uses_operators};
 ghost use Rattle.pg_grammar_form.specs.WordItems.{word_name};
 
 use crate::names::{has_name, has_word};
@@ -51,6 +51,7 @@ fn has_long_text(form: &BaseForm) -> bool
 {
     has_long_class(form)
         || has_long_builder(form)
+        || has_long_chain(form)
         || literal_length(form) > LITERAL_LIMIT
         || name_length(form) > NAME_LIMIT
 }
@@ -65,17 +66,34 @@ fn has_long_class(form: &BaseForm) -> bool
     }
 }
 
-/// Whether the name of one of its builders has more than 64 characters.
+/// Whether the name of its builder has more than 64 characters, if it is a chain.
+fn has_long_chain(form: &BaseForm) -> bool
+    ensures { result ≡ has_long_chain form.now }
+{
+    match form {
+        Form::Chain(_, used, _, _) => characters_in(used.name.as_str()) > NAME_LIMIT,
+        Form::Leaf(_)
+        | Form::Seq(_)
+        | Form::Choice(_)
+        | Form::Many(_)
+        | Form::Rule(_)
+        | Form::Expression(_, _)
+        | Form::Around(_, _) => false,
+    }
+}
+
+/// Whether the name of one of its builders has more than 64 characters, if it is no chain.
 fn has_long_builder(form: &BaseForm) -> bool
     ensures { result ≡ list_any has_long_name (builders_in form.now) }
 {
     match form {
-        Form::Chain(_, used, _, _) | Form::Around(Around::Build(used, _), _) => has_long_name(used),
+        Form::Around(Around::Build(used, _), _) => has_long_name(used),
         Form::Expression(builders, _) => have_long_name(builders),
         Form::Leaf(_)
         | Form::Seq(_)
         | Form::Choice(_)
         | Form::Many(_)
+        | Form::Chain(_, _, _, _)
         | Form::Rule(_)
         | Form::Around(
             Around::Try | Around::Text | Around::Skip | Around::Label(_) | Around::Local,
@@ -107,11 +125,11 @@ fn literal_length(form: &BaseForm) -> usize
     match form {
         Form::Leaf(Leaf::String(text)) | Form::Around(Around::Label(text), _) => text.len(),
         Form::Around(Around::Build(_, symbol), _) => characters_in(symbol.as_str()),
+        Form::Chain(_, used, _, _) => characters_in(used.symbol.as_str()),
         Form::Leaf(_)
         | Form::Seq(_)
         | Form::Choice(_)
         | Form::Many(_)
-        | Form::Chain(_, _, _, _)
         | Form::Rule(_)
         | Form::Expression(_, _)
         | Form::Around(Around::Try | Around::Text | Around::Skip | Around::Local, _) => 0,

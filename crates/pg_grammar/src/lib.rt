@@ -18,8 +18,8 @@ pub use laws::grammars_are_unique;
 pub use maker::Maker;
 pub use maker_fault::{MakerFault, Unfinished};
 pub use pg_grammar_form::{
-    Around, BaseForm, BuilderUse, CLASS_LIMIT, ClassExpression, ClassId, ClassItem, ClassPart,
-    Decl, Form, LITERAL_LIMIT, Leaf, NAME_LIMIT, NODE_LIMIT, NextForm, Node, NodeId,
+    Around, BaseForm, BuilderUse, CLASS_LIMIT, ChainBuilder, ClassExpression, ClassId, ClassItem,
+    ClassPart, Decl, Form, LITERAL_LIMIT, Leaf, NAME_LIMIT, NODE_LIMIT, NextForm, Node, NodeId,
     OPERATOR_LIMIT, OperatorBuilders, OperatorsItem, Parts, PredicateUse, RULE_LIMIT, Role, RuleId,
     Side, WORD_LIMIT, WordId, WordItem,
 };

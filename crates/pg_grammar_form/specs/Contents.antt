@@ -4,6 +4,7 @@ use Rattle.std.specs.Str.{chars}
 use Rattle.pg_grammar_form.specs.Names.{Name}
 use Rattle.pg_grammar_form.specs.declared.class.ClassPart.{ClassPart}
 use Rattle.pg_grammar_form.specs.declared.used.BuilderUse.{BuilderUse}
+use Rattle.pg_grammar_form.specs.declared.used.ChainBuilder.{ChainBuilder}
 use Rattle.pg_grammar_form.specs.declared.used.OperatorBuilders.{OperatorBuilders}
 use Rattle.pg_grammar_form.specs.declared.form.Leaf.{Leaf}
 use Rattle.pg_grammar_form.specs.declared.form.Leaf.TheVariants as leaf
@@ -93,9 +94,13 @@ abbrev pub builder_of : Around → Option BuilderUse
 builder_of (around.Build used symbol) = Some used
 builder_of _ = None
 
--- the builders in a form
+-- the builder of a chain
+abbrev pub chain_builder_in : {R W P L : Type 0} → Form R W P L → Option ChainBuilder
+chain_builder_in (form.Chain side used operand separator) = Some used
+chain_builder_in _ = None
+
+-- the builders in a form that isn't a chain
 abbrev pub builders_in : {R W P L : Type 0} → Form R W P L → List BuilderUse
-builders_in (form.Chain side used operand separator) = used ∷ []
 builders_in (form.Expression builders part) = all_builders builders
 builders_in (form.Around (around.Build used symbol) part) = used ∷ []
 builders_in _ = []
@@ -103,6 +108,7 @@ builders_in _ = []
 -- the characters of the string, symbol or message in a form, or none
 abbrev pub literal_in : {R W P L : Type 0} → Form R W P L → List ℕ
 literal_in (form.Leaf (leaf.String text)) = text
+literal_in (form.Chain side used operand separator) = chars used.symbol
 literal_in (form.Around (around.Build used symbol) part) = chars symbol
 literal_in (form.Around (around.Label message) part) = message
 literal_in _ = []

@@ -5,7 +5,7 @@ use Rattle.std.specs.Option.{option_map_or}
 use Rattle.std.specs.Str.{chars}
 use Rattle.pg_grammar_form.specs.Preorder.{SpellForms, roots}
 use Rattle.pg_grammar_form.specs.Classes.{descends, is_long, lacks_item}
-use Rattle.pg_grammar_form.specs.Contents.{class_parts, builders_in, is_declaration, leaf_in, literal_in, name_in, string_in, term_in}
+use Rattle.pg_grammar_form.specs.Contents.{class_parts, builders_in, chain_builder_in, is_declaration, leaf_in, literal_in, name_in, string_in, term_in}
 use Rattle.pg_grammar_form.specs.Names.{Name, name_at, has_name}
 use Rattle.pg_grammar_form.specs.declared.used.BuilderUse.{BuilderUse}
 use Rattle.pg_grammar_form.specs.declared.form.NextForm.{NextForm}
@@ -107,10 +107,14 @@ has_bad_literal form = list_any descends (class_parts form) || is_empty_string f
 abbrev pub has_long_name : BuilderUse → Bool
 has_long_name used = nat_lt 64 (length (chars used.name))
 
+-- whether the name of a chain's builder has more than 64 characters
+abbrev pub has_long_chain : BaseForm → Bool
+has_long_chain form = option_map_or (λ used. nat_lt 64 (length (chars used.name))) (chain_builder_in form) false
+
 -- whether a literal, symbol or message has more than 1,024 characters, or a name has more than 64
 abbrev pub has_long_text : BaseForm → Bool
 has_long_text form =
-    (list_any is_long (class_parts form) || list_any has_long_name (builders_in form))
+    (list_any is_long (class_parts form) || (list_any has_long_name (builders_in form) || has_long_chain form))
     || (nat_lt 1024 (length (literal_in form)) || nat_lt 64 (length (name_in form)))
 
 -- whether a form names a rule or a word item that isn't among these

@@ -4,6 +4,7 @@ pub mod Literals
 pub mod Classes
 pub mod ClassItems
 pub mod Contents
+pub mod Chains
 pub mod Forms
 pub mod Operators
 pub mod WordItems

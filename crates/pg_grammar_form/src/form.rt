@@ -13,7 +13,7 @@ use crate::class::ClassExpression;
 use crate::number::{NodeId, RuleId, WordId};
 use crate::parts::Parts;
 use crate::side::Side;
-use crate::used::{BuilderUse, OperatorBuilders};
+use crate::used::{BuilderUse, ChainBuilder, OperatorBuilders};
 use pg_text::Characters;
 use pg_tree::Label;
 use std::alloc::{AllocError, Global};
@@ -65,7 +65,7 @@ pub enum Form<R, W, P, L> {
     /// The part, as often as it matches, perhaps never (`many` of R).
     Many(P),
     /// Operands (the first part) with separators (the second part) between them; a builder folds them from a side.
-    Chain(Side, BuilderUse, P, P),
+    Chain(Side, ChainBuilder, P, P),
     /// The body of the rule, which callers may pass later.
     Rule(R),
     /// Operators of the table in force around the term, with these builders (`buildExpressionParser` of L).

@@ -29,5 +29,5 @@ pub use number::{ClassId, NodeId, RuleId, WordId};
 pub use operators_item::OperatorsItem;
 pub use parts::Parts;
 pub use side::Side;
-pub use used::{BuilderUse, OperatorBuilders, PredicateUse};
+pub use used::{BuilderUse, ChainBuilder, OperatorBuilders, PredicateUse};
 pub use word_item::WordItem;

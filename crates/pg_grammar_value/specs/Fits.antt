@@ -1,16 +1,18 @@
 -- What a registry has to offer for a grammar, and the class expressions of the grammar.
-use Rattle.std.specs.Prelude.{◌≡◌, ℕ, List, Option, Some, None, slice_get}
+use Rattle.std.specs.Prelude.{◌≡◌, ℕ, List, Option, Some, None, option_map, slice_get}
 use Rattle.std.specs.List.{AllByRecursion}
 use Rattle.pg_pred.specs.Offer.{Offer, predicate_class, builder_shape}
 use Rattle.pg_grammar_form.specs.Forms.{Node}
 use Rattle.pg_grammar_form.specs.ClassItems.{item_class}
-use Rattle.pg_grammar_form.specs.Contents.{class_parts, builders_in}
+use Rattle.pg_grammar_form.specs.Chains.{with_symbol}
+use Rattle.pg_grammar_form.specs.Contents.{class_parts, builders_in, chain_builder_in}
 use Rattle.pg_grammar_value.specs.Grammar.{Grammar}
 use Rattle.pg_grammar_form.specs.declared.class.ClassPart.{ClassPart}
 use Rattle.pg_grammar_form.specs.declared.class.ClassPart.TheVariants as part
 use Rattle.pg_grammar_form.specs.declared.class_item.ClassItem.{ClassItem}
 use Rattle.pg_grammar_form.specs.declared.operators_item.OperatorsItem.{OperatorsItem}
 use Rattle.pg_grammar_form.specs.declared.used.BuilderUse.{BuilderUse}
+use Rattle.pg_grammar_form.specs.declared.used.ChainBuilder.{ChainBuilder}
 use Rattle.pg_grammar_form.specs.declared.word_item.WordItem.{WordItem}
 
 -- the predicate that a part names is offered, with the same class
@@ -30,13 +32,18 @@ ClassFits offer class = AllByRecursion (PartFits offer) class
 abbrev pub BuilderFits : Offer → BuilderUse → Type 0
 BuilderFits offer used = builder_shape offer used.name ≡ Some used.shape
 
+-- the builder of a chain is offered, and has the same shape with the chain's symbol
+abbrev pub ChainFits : Offer → Option ChainBuilder → Type 0
+ChainFits offer None = Unit {0}
+ChainFits offer (Some used) = option_map (λ shape. with_symbol shape used.symbol) (builder_shape offer used.name) ≡ Some used.shape
+
 -- each of these builders is offered, with the same shape
 abbrev pub BuildersFit : Offer → List BuilderUse → Type 0
 BuildersFit offer builders = AllByRecursion (BuilderFits offer) builders
 
 -- the predicates and the builders that a node names are offered, with the same classes and shapes
 abbrev pub NodeFits : Offer → Node → Type 0
-NodeFits offer node = ClassFits offer (class_parts node) × BuildersFit offer (builders_in node)
+NodeFits offer node = ClassFits offer (class_parts node) × BuildersFit offer (builders_in node) × ChainFits offer (chain_builder_in node)
 
 -- each predicate that a class item names is offered, with the same class
 abbrev pub ItemsFit : Offer → List ClassItem → Type 0

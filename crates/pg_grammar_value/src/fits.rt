@@ -5,13 +5,13 @@
 
 ghost use Rattle.std.specs.Prelude.{◌≡◌, ◌↔◌, Some, IsTrue, option_copied};
 ghost use Rattle.pg_pred.specs.Offer.{offer_of, predicate_class};
-ghost use Rattle.pg_grammar_form.specs.Contents.{class_parts, builders_in, all_builders};
-ghost use Rattle.pg_grammar_value.specs.Fits.{PartFits, ClassFits, BuilderFits, BuildersFit, ItemsFit, WordFits, WordsFit, OperatorsFit, NodeFits, NodesFit, Fits};
+ghost use Rattle.pg_grammar_form.specs.Contents.{class_parts, builders_in, chain_builder_in, all_builders};
+ghost use Rattle.pg_grammar_value.specs.Fits.{PartFits, ClassFits, BuilderFits, BuildersFit, ChainFits, ItemsFit, WordFits, WordsFit, OperatorsFit, NodeFits, NodesFit, Fits};
 
 use crate::grammar::Grammar;
 use pg_grammar_form::{
-    Around, BuilderUse, ClassExpression, ClassItem, ClassPart, Form, Node, OperatorBuilders,
-    OperatorsItem, PredicateUse, WordItem,
+    Around, BuilderUse, ChainBuilder, ClassExpression, ClassItem, ClassPart, Form, Node,
+    OperatorBuilders, OperatorsItem, PredicateUse, WordItem,
 };
 use pg_pred::Registry;
 
@@ -85,7 +85,9 @@ fn operators_fit(registry: &Registry, operators: Option<&OperatorsItem>) -> bool
 fn node_fits(registry: &Registry, node: &Node) -> bool
     ensures { IsTrue result ↔ NodeFits (offer_of registry.now) node.now }
 {
-    node_class_fits(registry, node) && node_builders_fit(registry, node)
+    node_class_fits(registry, node)
+        && node_builders_fit(registry, node)
+        && node_chain_fits(registry, node)
 }
 
 /// Whether the registry has each predicate that a node names.
@@ -98,19 +100,44 @@ fn node_class_fits(registry: &Registry, node: &Node) -> bool
     }
 }
 
-/// Whether the registry has each builder that a node names.
+/// Whether the registry has the builder of a chain, if the node is one.
+fn node_chain_fits(registry: &Registry, node: &Node) -> bool
+    ensures { IsTrue result ↔ ChainFits (offer_of registry.now) (chain_builder_in node.now) }
+{
+    match node {
+        Form::Chain(_, used, _, _) => has_chain_builder(registry, used),
+        Form::Leaf(_)
+        | Form::Seq(_)
+        | Form::Choice(_)
+        | Form::Many(_)
+        | Form::Rule(_)
+        | Form::Expression(_, _)
+        | Form::Around(_, _) => true,
+    }
+}
+
+/// Whether the registry has this builder, with the same shape for the symbol.
+fn has_chain_builder(registry: &Registry, used: &ChainBuilder) -> bool
+    ensures { IsTrue result ↔ ChainFits (offer_of registry.now) (Some used.now) }
+{
+    match registry.builder(used.name.as_str()) {
+        Some(builder) => used.is_of(builder.shape()),
+        None => false,
+    }
+}
+
+/// Whether the registry has each builder that a node names, if it is no chain.
 fn node_builders_fit(registry: &Registry, node: &Node) -> bool
     ensures { IsTrue result ↔ BuildersFit (offer_of registry.now) (builders_in node.now) }
 {
     match node {
-        Form::Chain(_, used, _, _) | Form::Around(Around::Build(used, _), _) => has_builder(
-            registry, used,
-        ),
+        Form::Around(Around::Build(used, _), _) => has_builder(registry, used),
         Form::Expression(builders, _) => has_builders(registry, builders),
         Form::Leaf(_)
         | Form::Seq(_)
         | Form::Choice(_)
         | Form::Many(_)
+        | Form::Chain(_, _, _, _)
         | Form::Rule(_)
         | Form::Around(
             Around::Try | Around::Text | Around::Skip | Around::Label(_) | Around::Local,

@@ -22,6 +22,16 @@ pub(crate) fn put_builder(page: &mut Page, name: &[char]) -> Result<(), AllocErr
     page.put(")")
 }
 
+/// Puts what a chain folds with as a function of the trees and of a symbol, in whose place the chain's own stands.
+pub(crate) fn put_link(page: &mut Page, name: &[char], symbol: &[char]) -> Result<(), AllocError> {
+    if symbol.is_empty() || !is(name, "node") {
+        return put_builder(page, name);
+    }
+    page.put("(const (")?;
+    put_built(page, name, symbol)?;
+    page.put("))")
+}
+
 /// Puts what makes a tree of others by a builder with a symbol.
 pub(crate) fn put_built(page: &mut Page, name: &[char], symbol: &[char]) -> Result<(), AllocError> {
     if is_made(name) {

@@ -3,7 +3,7 @@
 //! A value stands in preorder. Its forms are put one after another, and what is to come behind their parts is kept on a list, so that nothing
 //! recurses, however deep it is. Where trees are dropped anyway, as in `skip`, the library's own parsers stand alone.
 
-use crate::builders::{put_builder, put_built};
+use crate::builders::{put_builder, put_built, put_link};
 use crate::class::{put_class, put_reader};
 use crate::helpers::Helper;
 use crate::imports::Library;
@@ -31,6 +31,8 @@ enum Todo<'i> {
     Literal(&'i [char]),
     /// A builder, as a function of a symbol and the trees.
     Builder(&'i [char]),
+    /// A builder with a chain's symbol, likewise.
+    Link(&'i [char], &'i [char]),
 }
 
 /// A value that is being put.
@@ -85,6 +87,7 @@ impl<'i> Writing<'i> {
             Todo::Comma => page.put(if self.is_broken { "\n  , " } else { ", " }),
             Todo::Literal(characters) => push_string(&mut page.text, characters),
             Todo::Builder(name) => put_builder(page, name),
+            Todo::Link(name, symbol) => put_link(page, name, symbol),
         }
     }
 
@@ -146,8 +149,13 @@ impl<'i> Writing<'i> {
                 self.argument(Wanted::Nothing)?;
                 page.put_parsec("between")
             }
-            WrittenForm::Chain { side, builder } => {
-                self.put_chain(page, *side, builder.as_slice())
+            WrittenForm::Chain {
+                side,
+                builder,
+                symbol,
+            } => {
+                let link = Todo::Link(builder.as_slice(), symbol.as_slice());
+                self.put_chain(page, *side, link)
             }
             WrittenForm::Expression {
                 infix,
@@ -347,16 +355,12 @@ impl<'i> Writing<'i> {
     }
 
     /// Puts a chain, whose operand comes first.
-    fn put_chain(
-        &mut self,
-        page: &mut Page,
-        side: Side,
-        builder: &'i [char],
-    ) -> Result<(), AllocError> {
+    fn put_chain(&mut self, page: &mut Page, side: Side, link: Todo<'i>) -> Result<(), AllocError> {
         page.need(Helper::Link)?;
         self.later(Todo::Text(")"))?;
         self.argument(Wanted::Trees)?;
-        self.builder(builder)?;
+        self.later(link)?;
+        self.later(Todo::Text(" "))?;
         self.later(Todo::Text(" (link"))?;
         self.argument(Wanted::Trees)?;
         page.put_parsec(match side {

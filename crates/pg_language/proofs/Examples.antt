@@ -17,6 +17,7 @@ use Rattle.pg_grammar_form.specs.declared.form.Around.TheVariants as kind
 use Rattle.pg_grammar_form.specs.declared.side.Side.TheVariants as side
 use Rattle.pg_grammar_form.specs.declared.operators_item.OperatorsItem.{OperatorsItem}
 use Rattle.pg_grammar_form.specs.declared.used.BuilderUse.{BuilderUse}
+use Rattle.pg_grammar_form.specs.declared.used.ChainBuilder.{ChainBuilder}
 use Rattle.pg_grammar_form.specs.declared.used.OperatorBuilders.{OperatorBuilders}
 use Rattle.pg_grammar_form.specs.declared.word_item.WordItem.{WordItem}
 use Rattle.pg_table.specs.Fitting.{term, prefixed, postfixed, joined, IsFitting}
@@ -27,6 +28,7 @@ use Rattle.pg_table.specs.Trails.{applied}
 use Rattle.pg_table.specs.Tables.{admit_fault, Admits}
 use Rattle.pg_table.specs.declared.admit_fault.AdmitFault.{AdmitFault}
 use Rattle.pg_language.specs.Runs.{StandsAt, IsWordAt, IsOperatorAt, IsDeclarationAt, keyword, goes_on, past_run, run_at}
+use Rattle.pg_grammar_form.specs.Chains.{handed}
 use Rattle.pg_grammar_form.specs.ClassItems.{has_character}
 use Rattle.pg_grammar_form.specs.declared.decl.Role.{Role}
 use Rattle.pg_language.specs.Derives as derives
@@ -40,12 +42,12 @@ digits = Range 48 57 ∷ []
 abbrev letters : List ClassPart
 letters = Range 97 122 ∷ []
 
--- nodes by the pair of their kids, and by the symbol
-abbrev pairs : BuilderUse
-pairs = record { name = codes "pair"; shape = shape.Node (codes "pair") }
-
+-- nodes by the symbol, and the links of chains that hand it one
 abbrev symbols : BuilderUse
 symbols = record { name = codes "symbol"; shape = shape.Symbol }
+
+abbrev pairs : ChainBuilder
+pairs = handed symbols (codes "pair")
 
 abbrev pub builders : OperatorBuilders
 builders = record { «infix» = symbols; prefix = symbols; postfix = symbols }

@@ -6,7 +6,7 @@ use Rattle.pg_tree.specs.declared.shape.Shape.{Shape}
 use Rattle.pg_grammar_form.specs.Forms.{Node}
 use Rattle.pg_grammar_form.specs.declared.form.Form.TheVariants as form
 use Rattle.pg_grammar_form.specs.declared.operators_item.OperatorsItem.{OperatorsItem}
-use Rattle.pg_grammar_form.specs.declared.used.BuilderUse.{BuilderUse}
+use Rattle.pg_grammar_form.specs.declared.used.ChainBuilder.{ChainBuilder}
 use Rattle.pg_grammar_form.specs.declared.used.OperatorBuilders.{OperatorBuilders}
 use Rattle.pg_language.specs.Derives as derives
 use Rattle.pg_language.specs.Derives.{Spot, at, applied, carried, finished, Derives, DerivesForm, DerivesParts, DerivesRounds, DerivesLinks}
@@ -69,7 +69,7 @@ more_after G side shape p s k left v w t u a b c d z items separator operand h =
 }
 
 -- a chain
-whole_chain : (G : Given) (side : Side) (used : BuilderUse) (p s k : ℕ) (a b : Spot) (v : List Tree) (t : List TrailItem) → DerivesChain G side used.shape p s k a b v t →
+whole_chain : (G : Given) (side : Side) (used : ChainBuilder) (p s k : ℕ) (a b : Spot) (v : List Tree) (t : List TrailItem) → DerivesChain G side used.shape p s k a b v t →
     DerivesForm G.grammar G.text (form.Chain side used p s) a b v (Rounds k ∷ t)
 whole_chain G side used p s k a b v t h =
     subst (λ v. DerivesForm G.grammar G.text (form.Chain side used p s) a b v (Rounds k ∷ t)) (sym h.after.forest)

@@ -10,7 +10,7 @@ use Rattle.pg_grammar_form.specs.declared.form.Around.{Around}
 use Rattle.pg_grammar_form.specs.declared.side.Side.{Side}
 use Rattle.pg_grammar_value.specs.declared.grammar.Rule as declared
 use Rattle.pg_grammar_form.specs.declared.operators_item.OperatorsItem.{OperatorsItem}
-use Rattle.pg_grammar_form.specs.declared.used.BuilderUse.{BuilderUse}
+use Rattle.pg_grammar_form.specs.declared.used.ChainBuilder.{ChainBuilder}
 use Rattle.pg_grammar_form.specs.declared.used.OperatorBuilders.{OperatorBuilders}
 use Rattle.pg_language.specs.Derives.{Spot, at, applied, carried}
 use Rattle.pg_table.specs.Tables.{Table}
@@ -52,7 +52,7 @@ mutual
     seq : {p m : ℕ} {ps : List ℕ} {a : Spot} {o : Outcome} → AnswersParts G p ps a o m → AnswersForm G (form.Seq (p ∷ ps)) a o m
     choice : {ps : List ℕ} {m : ℕ} {a : Spot} {o : Outcome} → AnswersAlternatives G (suc zero) ps a o m → AnswersForm G (form.Choice ps) a o m
     many : {p k m : ℕ} {a : Spot} {o : Outcome} → AnswersRounds G p k a o m → AnswersForm G (form.Many p) a (noted (Rounds k) o) m
-    chain : {side : Side} {used : BuilderUse} {p s k m : ℕ} {a : Spot} {o : Outcome} → AnswersChain G side used.shape p s k a o m →
+    chain : {side : Side} {used : ChainBuilder} {p s k m : ℕ} {a : Spot} {o : Outcome} → AnswersChain G side used.shape p s k a o m →
         AnswersForm G (form.Chain side used p s) a (noted (Rounds k) o) m
     rule : {r m : ℕ} {named : declared.Rule} {a : Spot} {o : Outcome} → slice_get G.grammar.rules r ≡ Some named →
         Answers G named.body a o m → AnswersForm G (form.Rule r) a o m

@@ -9,6 +9,7 @@ use Rattle.pg_grammar_value.specs.Grammar.{Grammar}
 use Rattle.pg_grammar_form.specs.Operators.{Operator}
 use Rattle.pg_grammar_form.specs.declared.class.ClassPart.{ClassPart}
 use Rattle.pg_grammar_form.specs.declared.used.BuilderUse.{BuilderUse}
+use Rattle.pg_grammar_form.specs.declared.used.ChainBuilder.{ChainBuilder}
 use Rattle.pg_grammar_form.specs.declared.used.OperatorBuilders.{OperatorBuilders}
 use Rattle.pg_grammar_form.specs.Forms.{Node}
 use Rattle.pg_grammar_form.specs.declared.form.Form.TheVariants as form
@@ -144,7 +145,7 @@ mutual
     many : {p n : ℕ} {a b : Spot} {forest : List Tree} {trail : List TrailItem} → DerivesRounds g text p n a b forest trail →
         DerivesForm g text (form.Many p) a b forest (Rounds n ∷ trail)
     -- an operand, and then any number of separators and operands
-    chain : {side : Side} {used : BuilderUse} {p s n : ℕ} {a b c : Spot} {first : List Tree} {links : List Link} {trail items : List TrailItem} →
+    chain : {side : Side} {used : ChainBuilder} {p s n : ℕ} {a b c : Spot} {first : List Tree} {links : List Link} {trail items : List TrailItem} →
         Derives g text p a b first trail → DerivesLinks g text p s n b c links items →
         DerivesForm g text (form.Chain side used p s) a c (folded side used.shape first links) (Rounds n ∷ (trail ++ items))
     -- the rule's body

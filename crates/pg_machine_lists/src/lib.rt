@@ -20,7 +20,7 @@ mod said;
 mod stretch;
 mod together;
 
-pub use build::build_after;
+pub use build::{build_after, build_chain};
 pub use level::{Climbed, Context, ExpressionFrame, Failure, Given, Level, Setting, Stretch};
 pub use levels::Levels;
 pub use lists::Lists;

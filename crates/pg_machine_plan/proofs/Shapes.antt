@@ -8,7 +8,7 @@ use Rattle.pg_grammar_form.specs.declared.form.Form.TheVariants as form
 use Rattle.pg_grammar_form.specs.declared.form.Leaf.{Leaf}
 use Rattle.pg_grammar_form.specs.declared.form.Leaf.TheVariants as leaf
 use Rattle.pg_grammar_form.specs.declared.side.Side.TheVariants.{Left, Right}
-use Rattle.pg_grammar_form.specs.declared.used.BuilderUse.{BuilderUse}
+use Rattle.pg_grammar_form.specs.declared.used.ChainBuilder.{ChainBuilder}
 use Rattle.pg_grammar_form.specs.declared.used.OperatorBuilders.{OperatorBuilders}
 use Rattle.pg_grammar_value.specs.Grammar.{Grammar}
 use Rattle.pg_grammar_value.specs.declared.grammar.Rule as declared
@@ -40,13 +40,13 @@ pub many_shaped : (g : Grammar) (plan : Plan) (pc : ℕ) (s : Stretch) (p table 
     IsShaped g plan pc s (form.Many p)
 many_shaped g plan pc s p table enter pick = λ text arms. a_many enter pick (λ a arm is. arms a table arm enter pick is)
 
-pub chain_shaped : (g : Grammar) (plan : Plan) (pc : ℕ) (s : Stretch) (used : BuilderUse) (p q head table out : ℕ) → s.end ≡ out + 1 → slice_get plan.code pc ≡ Some Hold →
+pub chain_shaped : (g : Grammar) (plan : Plan) (pc : ℕ) (s : Stretch) (used : ChainBuilder) (p q head table out : ℕ) → s.end ≡ out + 1 → slice_get plan.code pc ≡ Some Hold →
     Notes plan s.keep p (pc + 1) head → slice_get plan.code head ≡ Some (Pick table) → slice_get plan.code out ≡ Some Release → IsShaped g plan pc s (form.Chain Left used p q)
 chain_shaped g plan pc s used p q head table out end hold noted pick release = λ text arms.
     subst (IsLaid (program g plan text) s.keep s.node pc (form.Chain Left used p q)) (sym end)
     (a_chain hold noted pick (λ a arm is. arms a head table out arm noted pick end is) release)
 
-pub right_chain_shaped : (g : Grammar) (plan : Plan) (pc : ℕ) (s : Stretch) (used : BuilderUse) (p q head table out : ℕ) → s.end ≡ out + 2 → slice_get plan.code pc ≡ Some Hold →
+pub right_chain_shaped : (g : Grammar) (plan : Plan) (pc : ℕ) (s : Stretch) (used : ChainBuilder) (p q head table out : ℕ) → s.end ≡ out + 2 → slice_get plan.code pc ≡ Some Hold →
     Notes plan s.keep p (pc + 1) head → slice_get plan.code head ≡ Some (Pick table) → IsLink plan s.keep p head → slice_get plan.code out ≡ Some (FoldLinks s.keep s.node) →
     slice_get plan.code (out + 1) ≡ Some Release → IsShaped g plan pc s (form.Chain Right used p q)
 right_chain_shaped g plan pc s used p q head table out end hold noted pick link folds release = λ text arms.

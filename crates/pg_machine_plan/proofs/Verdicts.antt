@@ -8,7 +8,7 @@ use Rattle.pg_grammar_form.specs.declared.form.Form.TheVariants as form
 use Rattle.pg_grammar_form.specs.declared.form.Around.{Around}
 use Rattle.pg_grammar_form.specs.declared.form.Around.TheVariants as kind
 use Rattle.pg_grammar_form.specs.declared.side.Side.{Side}
-use Rattle.pg_grammar_form.specs.declared.used.BuilderUse.{BuilderUse}
+use Rattle.pg_grammar_form.specs.declared.used.ChainBuilder.{ChainBuilder}
 use Rattle.pg_grammar_value.specs.declared.grammar.Rule as declared
 use Rattle.pg_grammar_value.specs.declared.trail.TrailItem.{TrailItem}
 use Rattle.pg_grammar_value.specs.declared.trail.TrailItem.TheVariants.{Alt, Rounds}
@@ -256,12 +256,12 @@ of_first first_failed h = h
 of_first first_stuck h = tt
 of_first (first_ok {c = c} {t = t} {e = e} {o = o} d) h = rest_consumes c [] t e o h
 
-chain_takes : (G : Given) (side : Side) (used : BuilderUse) (p s : ℕ) (a : Spot) → TakesAtOnce (outcomes_of G p a) → (o : Outcome) (m : ℕ) →
+chain_takes : (G : Given) (side : Side) (used : ChainBuilder) (p s : ℕ) (a : Spot) → TakesAtOnce (outcomes_of G p a) → (o : Outcome) (m : ℕ) →
     AnswersForm G (form.Chain side used p s) a o m → Consumes o
 chain_takes G side used p s a takes o m (answers.chain {k = k} {o = q} (first_operand {m = j} {x = x} d r)) =
     noted_consumes (Rounds k) q (of_first r (takes x j d))
 
-no_link : (G : Given) (side : Side) (used : BuilderUse) (p q m n : ℕ) (a : Spot) → IsEmptyAtOnce (outcomes_of G p a) a m → FailsAtOnce (outcomes_of G q a) n →
+no_link : (G : Given) (side : Side) (used : ChainBuilder) (p q m n : ℕ) (a : Spot) → IsEmptyAtOnce (outcomes_of G p a) a m → FailsAtOnce (outcomes_of G q a) n →
     IsEmptyAtOnce (of_form G (form.Chain side used p q) a) a (m + n)
 no_link G side used p q m n a s r =
     let trail : List TrailItem = Rounds zero ∷ (s.trail ++ []) in
@@ -274,7 +274,7 @@ no_link G side used p q m n a s r =
           (answers.chain (first_operand s.so (first_ok (link r.so separator_failed))));
     }
 
-chain_says : (G : Given) (side : Side) (used : BuilderUse) (p q : ℕ) (a : Spot) (v w : Verdict) → Says (outcomes_of G p a) a v → Says (outcomes_of G q a) a w →
+chain_says : (G : Given) (side : Side) (used : ChainBuilder) (p q : ℕ) (a : Spot) (v w : Verdict) → Says (outcomes_of G p a) a v → Says (outcomes_of G q a) a w →
     Says (of_form G (form.Chain side used p q) a) a (chained v w)
 chain_says G side used p q a Unknown w s r = tt
 chain_says G side used p q a (Fails m) w s r =

@@ -8,7 +8,7 @@ use Rattle.pg_grammar_form.specs.declared.form.Leaf.TheVariants as leaf
 use Rattle.pg_grammar_form.specs.declared.form.Around.{Around}
 use Rattle.pg_grammar_form.specs.declared.form.Around.TheVariants as kind
 use Rattle.pg_grammar_form.specs.declared.side.Side.TheVariants.{Left, Right}
-use Rattle.pg_grammar_form.specs.declared.used.BuilderUse.{BuilderUse}
+use Rattle.pg_grammar_form.specs.declared.used.ChainBuilder.{ChainBuilder}
 use Rattle.pg_grammar_form.specs.declared.used.OperatorBuilders.{OperatorBuilders}
 use Rattle.pg_grammar_value.specs.declared.grammar.Rule as declared
 use Rattle.pg_language.specs.Derives.{Spot}
@@ -131,13 +131,13 @@ pub data IsLaid (P : Program) (keep : Keep) (q pc : ℕ) : Node → ℕ → Type
       ((a : Spot) (arm : Arm) → chosen P.plan table (slice_get P.given.text a.place) ≡ Some arm → GoesRound P keep (pc + 1) end a arm p [] (ComesTo P.plan (pc + 1))) →
       IsLaid P keep q pc (form.Many p) end
   -- a chain that is folded from the left
-  a_chain : {used : BuilderUse} {p separator head table out : ℕ} → slice_get P.plan.code pc ≡ Some Hold → IsNoted P keep p (pc + 1) head →
+  a_chain : {used : ChainBuilder} {p separator head table out : ℕ} → slice_get P.plan.code pc ≡ Some Hold → IsNoted P keep p (pc + 1) head →
       slice_get P.plan.code head ≡ Some (Pick table) →
       ((a : Spot) (arm : Arm) → chosen P.plan table (slice_get P.given.text a.place) ≡ Some arm →
       GoesRound P keep head out a arm separator (p ∷ []) (FoldsBack P.plan keep q head)) →
       slice_get P.plan.code out ≡ Some Release → IsLaid P keep q pc (form.Chain Left used p separator) (out + 1)
   -- a chain that is folded from the right: what is before an operand waits
-  a_right_chain : {used : BuilderUse} {p separator head table end out : ℕ} → slice_get P.plan.code pc ≡ Some Hold → IsNoted P keep p (pc + 1) head →
+  a_right_chain : {used : ChainBuilder} {p separator head table end out : ℕ} → slice_get P.plan.code pc ≡ Some Hold → IsNoted P keep p (pc + 1) head →
       slice_get P.plan.code head ≡ Some (Pick table) →
       ((a : Spot) (arm : Arm) → chosen P.plan table (slice_get P.given.text a.place) ≡ Some arm →
       GoesRound P keep (head + 1) out a arm separator [] (ComesTo P.plan (head + 1))) →

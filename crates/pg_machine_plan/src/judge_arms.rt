@@ -3,7 +3,7 @@
 ghost use Rattle.std.specs.Prelude.{◌≡◌, ℕ, Some, slice_get};
 ghost use Rattle.std.specs.Bool.{OnTrue};
 ghost use Rattle.pg_grammar_form.specs.declared.form.Form.TheVariants as form;
-ghost use Rattle.pg_grammar_form.specs.declared.used.BuilderUse.{BuilderUse};
+ghost use Rattle.pg_grammar_form.specs.declared.used.ChainBuilder.{ChainBuilder};
 ghost use Rattle.pg_grammar_value.specs.Grammar.{Grammar};
 ghost use Rattle.pg_machine_plan.specs.Columns.{IsColumn, Wherever};
 ghost use Rattle.pg_machine_plan.specs.Judged.{HasArm, HasArmsAt, HasChainArm, HasChoiceArm, HasLinkArm, HasManyArm};
@@ -187,7 +187,7 @@ fn has_side_arm(
     operand: NodeId,
     separator: NodeId,
 ) -> bool
-    ensures { OnTrue result ((g : Grammar) → IsColumn g next column.now → (used : BuilderUse) → Wherever next (λ text a. HasArm (program g plan.now text) a pc stretch (form.Chain side used operand separator))) }
+    ensures { OnTrue result ((g : Grammar) → IsColumn g next column.now → (used : ChainBuilder) → Wherever next (λ text a. HasArm (program g plan.now text) a pc stretch (form.Chain side used operand separator))) }
 {
     match side {
         Side::Left => has_chain_arm(plan, column, next, pc, stretch, operand, separator),

@@ -8,7 +8,7 @@ ghost use Rattle.pg_grammar_form.specs.declared.form.Form.TheVariants as form;
 ghost use Rattle.pg_grammar_form.specs.declared.form.Leaf.{Leaf};
 ghost use Rattle.pg_grammar_form.specs.declared.form.Leaf.TheVariants as leaf;
 ghost use Rattle.pg_grammar_form.specs.declared.side.Side.TheVariants.{Left, Right};
-ghost use Rattle.pg_grammar_form.specs.declared.used.BuilderUse.{BuilderUse};
+ghost use Rattle.pg_grammar_form.specs.declared.used.ChainBuilder.{ChainBuilder};
 ghost use Rattle.pg_grammar_value.specs.Grammar.{Grammar};
 ghost use Rattle.pg_machine_plan.specs.Judged.{HasShape, IsBody, IsLink, IsShaped};
 ghost use Rattle.pg_machine_plan.specs.Layout.{IsTransparent, keep_below};
@@ -154,7 +154,7 @@ fn is_many(plan: &Plan, pc: usize) -> bool
 
 /// A chain has its first operand, and then a table.
 fn is_chain(plan: &Plan, pc: usize, stretch: Stretch, side: Side, operand: NodeId) -> bool
-    ensures { OnTrue result ((g : Grammar) (used : BuilderUse) (separator : ℕ) → IsShaped g plan.now pc stretch (form.Chain side used operand separator)) }
+    ensures { OnTrue result ((g : Grammar) (used : ChainBuilder) (separator : ℕ) → IsShaped g plan.now pc stretch (form.Chain side used operand separator)) }
 {
     match side {
         Side::Left => is_left_chain(plan, pc, stretch, operand),
@@ -164,7 +164,7 @@ fn is_chain(plan: &Plan, pc: usize, stretch: Stretch, side: Side, operand: NodeI
 
 /// One that is folded from the left ends where it is released.
 fn is_left_chain(plan: &Plan, pc: usize, stretch: Stretch, operand: NodeId) -> bool
-    ensures { OnTrue result ((g : Grammar) (used : BuilderUse) (separator : ℕ) → IsShaped g plan.now pc stretch (form.Chain Left used operand separator)) }
+    ensures { OnTrue result ((g : Grammar) (used : ChainBuilder) (separator : ℕ) → IsShaped g plan.now pc stretch (form.Chain Left used operand separator)) }
 {
     let Some(head) = after(plan, stretch.keep, operand, pc) else {
         return false;
@@ -180,7 +180,7 @@ fn is_left_chain(plan: &Plan, pc: usize, stretch: Stretch, operand: NodeId) -> b
 
 /// In one that is folded from the right, each link is noted after the table, and what waits is folded before it is released.
 fn is_right_chain(plan: &Plan, pc: usize, stretch: Stretch, operand: NodeId) -> bool
-    ensures { OnTrue result ((g : Grammar) (used : BuilderUse) (separator : ℕ) → IsShaped g plan.now pc stretch (form.Chain Right used operand separator)) }
+    ensures { OnTrue result ((g : Grammar) (used : ChainBuilder) (separator : ℕ) → IsShaped g plan.now pc stretch (form.Chain Right used operand separator)) }
 {
     let Some(head) = after(plan, stretch.keep, operand, pc) else {
         return false;

@@ -3,7 +3,7 @@
 use crate::instruction::{Instruction, Keep};
 use crate::lay_code::{FAIL, Laying, Task, Way};
 use crate::lay_needs::{Needs, is_satisfy, needs_at};
-use pg_grammar_form::{Around, Form, Leaf, Node, NodeId, RuleId, Side, WordId};
+use pg_grammar_form::{Around, Form, Node, NodeId, RuleId, Side};
 use std::alloc::AllocError;
 
 /// An alternative with so many instructions at most is laid out both to be gone into and to be tried, where it needs both.
@@ -52,7 +52,7 @@ impl Laying<'_> {
     /// Begins the code of a node of this form.
     fn lay_form(&mut self, keep: Keep, id: NodeId, node: &Node) -> Result<(), AllocError> {
         match node {
-            Form::Leaf(leaf) => self.lay_leaf(keep, id, leaf),
+            Form::Leaf(_) => self.put(Instruction::Read(keep, id)),
             Form::Seq(parts) => {
                 self.put(Instruction::Enter)?;
                 self.lay_parts(keep, parts.as_slice())
@@ -68,18 +68,6 @@ impl Laying<'_> {
             Form::Chain(Side::Right, _, operand, separator) => {
                 self.lay_right_chain(keep, id, *operand, *separator)
             }
-        }
-    }
-
-    /// The code of a leaf.
-    fn lay_leaf(&mut self, keep: Keep, id: NodeId, leaf: &Leaf<WordId>) -> Result<(), AllocError> {
-        match leaf {
-            Leaf::Satisfy(_)
-            | Leaf::String(_)
-            | Leaf::Word(_)
-            | Leaf::NotFollowedBy(_)
-            | Leaf::EndOfText => self.put(Instruction::Read(keep, id)),
-            Leaf::Declare(_) => self.give_up(),
         }
     }
 

@@ -5,7 +5,7 @@ use Rattle.pg_grammar_form.specs.Forms.{Node}
 use Rattle.pg_language.specs.Answers.{Given}
 use Rattle.pg_grammar_form.specs.declared.form.Form.TheVariants as form
 use Rattle.pg_grammar_form.specs.declared.side.Side.TheVariants.{Left, Right}
-use Rattle.pg_grammar_form.specs.declared.used.BuilderUse.{BuilderUse}
+use Rattle.pg_grammar_form.specs.declared.used.ChainBuilder.{ChainBuilder}
 use Rattle.pg_grammar_value.specs.declared.trail.TrailItem.{TrailItem}
 use Rattle.pg_grammar_value.specs.declared.trail.TrailItem.TheVariants.{Rounds}
 use Rattle.pg_language.specs.Answers as answers
@@ -50,7 +50,7 @@ released P l N m keep out b s t d e i v k (failed y f) less release on =
     (l, less, same_back P l s.stack (s.nodes + m) ((s.taken || d) || y) (s.taken || (d || y)) t (or_assoc s.taken d y) on)
 released P l N m keep out b s t d e i v k empty_round less release on = absurd (cc)
 
-first_came : (P : Program) (N : ℕ) → Claim P N → (l n m q p separator : ℕ) (keep : Keep) (used : BuilderUse) (head table out : ℕ) (s t : State) (o : Outcome) → l < n → n ≤ N →
+first_came : (P : Program) (N : ℕ) → Claim P N → (l n m q p separator : ℕ) (keep : Keep) (used : ChainBuilder) (head table out : ℕ) (s t : State) (o : Outcome) → l < n → n ≤ N →
     IsLinkHead P keep q head table out p separator used → slice_get P.plan.code out ≡ Some Release → Answers P.given p s.spot o m →
     onward P l keep head (holds s.forest s.spot.table ∷ s.stack) [] s.taken o (s.nodes + 1 + m) ≡ Some t → Comes P n keep (out + 1) s t (outcomes_of P.given q s.spot)
 first_came P N claim l n m q p separator keep used head table out s t (ok c b v i e) less below is release d on =
@@ -83,7 +83,7 @@ first_came P N claim l n m q p separator keep used head table out s t (failed c 
     }
 first_came P N claim l n m q p separator keep used head table out s t empty_round less below is release d on = absurd (cc)
 
-pub chain_comes : (P : Program) (N : ℕ) → Claim P N → (n q p separator : ℕ) (keep : Keep) (used : BuilderUse) (head table out : ℕ) (s t : State) → n ≤ N →
+pub chain_comes : (P : Program) (N : ℕ) → Claim P N → (n q p separator : ℕ) (keep : Keep) (used : ChainBuilder) (head table out : ℕ) (s t : State) → n ≤ N →
     IsLinkHead P keep q head table out p separator used → slice_get P.plan.code s.pc ≡ Some Hold → IsNoted P keep p (s.pc + 1) head →
     slice_get P.plan.code out ≡ Some Release → run P n s ≡ Some t → Comes P n keep (out + 1) s t (outcomes_of P.given q s.spot)
 chain_comes P N claim n q p separator keep used head table out s t below is hold noted release on =
@@ -96,7 +96,7 @@ chain_comes P N claim n q p separator keep used head table out s t below is hold
 -- ---- folded from the right
 
 -- past the place where links are folded, where none waits
-none_waits : (P : Program) (l N q p separator : ℕ) (keep : Keep) (used : BuilderUse) (out : ℕ) (s t : State) (x : Bool) (o : Outcome) (n : ℕ) → l < N →
+none_waits : (P : Program) (l N q p separator : ℕ) (keep : Keep) (used : ChainBuilder) (out : ℕ) (s t : State) (x : Bool) (o : Outcome) (n : ℕ) → l < N →
     slice_get P.given.grammar.nodes q ≡ Some (form.Chain Right used p separator) → slice_get P.plan.code out ≡ Some (FoldLinks keep q) →
     onward P l keep out (holds s.forest s.spot.table ∷ s.stack) [] x o n ≡ Some t →
     (j : ℕ) × (j < N) × (onward P j keep (out + 1) (holds s.forest s.spot.table ∷ s.stack) [] x o n ≡ Some t)
@@ -109,7 +109,7 @@ none_waits P l N q p separator keep used out s t x (ok y a w u f) n less chain f
 none_waits P l N q p separator keep used out s t x (failed y f) n less chain folds on = (l, less, on)
 none_waits P l N q p separator keep used out s t x empty_round n less chain folds on = absurd (cc)
 
-right_first_came : (P : Program) (N : ℕ) → Claim P N → (l n m q p separator : ℕ) (keep : Keep) (used : BuilderUse) (head table round out : ℕ) (s t : State) (o : Outcome) → l < n → n ≤ N →
+right_first_came : (P : Program) (N : ℕ) → Claim P N → (l n m q p separator : ℕ) (keep : Keep) (used : ChainBuilder) (head table round out : ℕ) (s t : State) (o : Outcome) → l < n → n ≤ N →
     IsRightHead P keep q head table round out p separator used → slice_get P.plan.code (out + 1) ≡ Some Release → Answers P.given p s.spot o m →
     onward P l keep head (holds s.forest s.spot.table ∷ s.stack) [] s.taken o (s.nodes + 1 + m) ≡ Some t → Comes P n keep (out + 1 + 1) s t (outcomes_of P.given q s.spot)
 right_first_came P N claim l n m q p separator keep used head table round out s t (ok c b v i e) less below is release d on =
@@ -144,7 +144,7 @@ right_first_came P N claim l n m q p separator keep used head table round out s 
     }
 right_first_came P N claim l n m q p separator keep used head table round out s t empty_round less below is release d on = absurd (cc)
 
-pub right_chain_comes : (P : Program) (N : ℕ) → Claim P N → (n q p separator : ℕ) (keep : Keep) (used : BuilderUse) (head table round out : ℕ) (s t : State) → n ≤ N →
+pub right_chain_comes : (P : Program) (N : ℕ) → Claim P N → (n q p separator : ℕ) (keep : Keep) (used : ChainBuilder) (head table round out : ℕ) (s t : State) → n ≤ N →
     IsRightHead P keep q head table round out p separator used → slice_get P.plan.code s.pc ≡ Some Hold → IsNoted P keep p (s.pc + 1) head →
     slice_get P.plan.code (out + 1) ≡ Some Release → run P n s ≡ Some t → Comes P n keep (out + 2) s t (outcomes_of P.given q s.spot)
 right_chain_comes P N claim n q p separator keep used head table round out s t below is hold there release on =

@@ -25,3 +25,4 @@ pub mod Readings
 pub mod ReadSo
 pub mod Ran
 pub mod RowPasses
+pub mod Held

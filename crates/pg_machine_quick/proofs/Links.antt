@@ -5,7 +5,7 @@ use Rattle.pg_tree.specs.Built.{built}
 use Rattle.pg_tree.specs.declared.shape.Shape.{Shape}
 use Rattle.pg_grammar_form.specs.declared.form.Form.TheVariants as form
 use Rattle.pg_grammar_form.specs.declared.side.Side.TheVariants.{Left}
-use Rattle.pg_grammar_form.specs.declared.used.BuilderUse.{BuilderUse}
+use Rattle.pg_grammar_form.specs.declared.used.ChainBuilder.{ChainBuilder}
 use Rattle.pg_grammar_value.specs.declared.trail.TrailItem.{TrailItem}
 use Rattle.pg_language.specs.Answers.{Given, Answers, AnswersForm, seq, part, AfterPart, part_last, part_failed, part_stuck, part_ok, AnswersLinks, link, separator_failed, separator_ok, operand_failed, operand_ok}
 use Rattle.pg_language.specs.Derives.{Spot, carried}
@@ -126,7 +126,7 @@ on_linked P l keep end k x n t c d i j e g shape left v (failed y f) h on =
 on_linked P l keep end k x n t c d i j e g shape left v empty_round h on = on
 
 -- the forest of a chain becomes one tree
-folds : (P : Program) (keep : Keep) (r p q head : ℕ) (used : BuilderUse) → slice_get P.given.grammar.nodes r ≡ Some (form.Chain Left used p q) →
+folds : (P : Program) (keep : Keep) (r p q head : ℕ) (used : ChainBuilder) → slice_get P.given.grammar.nodes r ≡ Some (form.Chain Left used p q) →
     Folds P head (FoldsBack P.plan keep r head) (folded_by keep used)
 folds P keep r p q head used is = λ l z t leads on.
     let u = turned P l z t (Fold keep r) leads.fold on in
@@ -137,19 +137,19 @@ folds P keep r p q head used is = λ l z t leads on.
     let less = w.counted in
     (w.left, omega arith, w.on)
 
-folded_links : (keep : Keep) (used : BuilderUse) (left v : List Tree) →
+folded_links : (keep : Keep) (used : ChainBuilder) (left v : List Tree) →
     folded_by keep used (added keep (added keep [] left) v) ≡ added keep [] (built used.shape [] (left ++ v) ∷ [])
 folded_links Kept used left v = refl
 folded_links Hidden used left v = refl
 
 -- what is at the head of a chain's links
-pub record IsLinkHead (P : Program) (keep : Keep) (r head table out p q : ℕ) (used : BuilderUse) : Type 0 where
+pub record IsLinkHead (P : Program) (keep : Keep) (r head table out p q : ℕ) (used : ChainBuilder) : Type 0 where
   pub chain : slice_get P.given.grammar.nodes r ≡ Some (form.Chain Left used p q)
   pub pick : slice_get P.plan.code head ≡ Some (Pick table)
   pub arms : (a : Spot) (arm : Arm) → chosen P.plan table (slice_get P.given.text a.place) ≡ Some arm →
       GoesRound P keep head out a arm q (p ∷ []) (FoldsBack P.plan keep r head)
 
-after_link : (P : Program) (n : ℕ) (keep : Keep) (head out p q : ℕ) (used : BuilderUse) (left : List Tree) (a : Spot) (k : List Frame) (c : ℕ) (x : Bool) (t : State) →
+after_link : (P : Program) (n : ℕ) (keep : Keep) (head out p q : ℕ) (used : ChainBuilder) (left : List Tree) (a : Spot) (k : List Frame) (c : ℕ) (x : Bool) (t : State) →
     Round P n keep head out (state head a k (added keep [] left) c x) t (of_form P.given (form.Seq (q ∷ p ∷ [])) a) (folded_by keep used) →
     ((l : ℕ) (b : Spot) (other : List Tree) (d : ℕ) (y : Bool) → l < n → run P l (state head b k (added keep [] other) d y) ≡ Some t →
     Comes P l keep out (state head b k [] d y) t (of_links P.given used.shape p q other b)) →
@@ -196,7 +196,7 @@ after_link P n keep head out p q used left a k c x t (goes_on {l = l} {m = m} {b
     }
 
 -- from the head on, by a bound on the turns
-pub links_come : (P : Program) (N : ℕ) → Claim P N → (B n : ℕ) (keep : Keep) (r head table out p q : ℕ) (used : BuilderUse) (left : List Tree) (a : Spot) (k : List Frame)
+pub links_come : (P : Program) (N : ℕ) → Claim P N → (B n : ℕ) (keep : Keep) (r head table out p q : ℕ) (used : ChainBuilder) (left : List Tree) (a : Spot) (k : List Frame)
     (c : ℕ) (x : Bool) (t : State) → IsLinkHead P keep r head table out p q used → n < B → n < N → run P n (state head a k (added keep [] left) c x) ≡ Some t →
     Comes P n keep out (state head a k [] c x) t (of_links P.given used.shape p q left a)
 links_come P N claim zero n keep r head table out p q used left a k c x t is less below on = absurd (omega arith)

@@ -12,14 +12,15 @@ use Rattle.pg_grammar_form.specs.declared.form.Leaf.{Leaf}
 use Rattle.pg_grammar_form.specs.declared.form.Leaf.TheVariants as leaf
 use Rattle.pg_language.specs.Answers.{given}
 use Rattle.pg_language.specs.Leaves.{leaf_outcome, satisfy_outcome, not_followed_outcome, string_outcome, end_outcome}
-use Rattle.pg_language.specs.Outcomes.{Outcome}
+use Rattle.pg_language.specs.Outcomes.{Outcome, failed}
 use Rattle.pg_language.specs.declared.reading.Reading.TheVariants.{Library}
 use Rattle.pg_table.specs.Tables.{Table}
-use Rattle.pg_machine_quick.specs.Readings.{Reads, IsReadAt, IsWordReadAt}
+use Rattle.pg_machine_quick.specs.Readings.{Reads, IsReadAt, IsUndeclaredAt, IsWordReadAt}
 use Rattle.pg_machine_quick.specs.Running.{Does}
-use Rattle.pg_machine_quick.specs.Tape.{Tape, spot_at, tape_has_read, tape_reads}
+use Rattle.pg_machine_quick.specs.Tape.{Tape, spot_at, tape_has_read, tape_declares, tape_reads}
 use Rattle.pg_machine_plan.specs.declared.instruction.Keep.{Keep}
 use Rattle.pg_machine_quick.specs.declared.reading.Reading.{Reading}
+use Rattle.pg_machine_quick.specs.declared.reading.Reading.TheVariants.{Took, Nothing, Failed}
 use Rattle.pg_machine_quick.specs.declared.step.Step.{Step}
 
 -- the node that is this leaf
@@ -69,6 +70,15 @@ word_at g text table i w node l r h is reads =
     let e : form.Leaf (leaf.Word w) ≡ node = as_leaf node (leaf.Word w) (ap (λ x. Some x) (sym is) ∙ h) in
     subst (λ (n : Node). IsReadAt g text table i n r) e reads
 
+pub declaration_node_at : (g : Grammar) (text : List ℕ) (id i : ℕ) (node : Node) (l : Leaf ℕ) (class : List ClassPart) (o : Option Reading) → slice_get g.nodes id ≡ Some node →
+    Some l ≡ leaf_in node → l ≡ leaf.Declare class → IfSome o (λ r. (table : Table) → IsUndeclaredAt g text table i (class_at g (site.Node id)) r) →
+    IfSome o (λ r. (table : Table) → IsReadAt g text table i node r)
+declaration_node_at g text id i node l class None at h is reads = reads
+declaration_node_at g text id i node l class (Some r) at h is reads = λ table.
+    let e : form.Leaf (leaf.Declare class) ≡ node = as_leaf node (leaf.Declare class) (ap (λ x. Some x) (sym is) ∙ h) in
+    let own : class_at g (site.Node id) ≡ class = class_at_node g id node at ∙ ap (λ (n : Node). class_parts n) (sym e) in
+    subst (λ (n : Node). IsReadAt g text table i n r) e (subst (λ (x : List ClassPart). IsUndeclaredAt g text table i x r) own (reads table))
+
 pub word_node_at : (g : Grammar) (text : List ℕ) (i w : ℕ) (node : Node) (l : Leaf ℕ) (o : Option Reading) → Some l ≡ leaf_in node → l ≡ leaf.Word w →
     IfSome o (λ r. (table : Table) → IsWordReadAt g text table i w r) → IfSome o (λ r. (table : Table) → IsReadAt g text table i node r)
 word_node_at g text i w node l None h is reads = reads
@@ -91,7 +101,11 @@ read_so g text table keep s t (form.Leaf (leaf.String x)) r step is h = with_out
 read_so g text table keep s t (form.Leaf (leaf.Word w)) r step is h = with_outcome text table keep s t r step (leaf_outcome g text (leaf.Word w) (spot_at table s.place)) is.0 is.1 is.2 h
 read_so g text table keep s t (form.Leaf (leaf.NotFollowedBy class)) r step is h = with_outcome text table keep s t r step (leaf_outcome g text (leaf.NotFollowedBy class) (spot_at table s.place)) is.0 is.1 is.2 h
 read_so g text table keep s t (form.Leaf leaf.EndOfText) r step is h = with_outcome text table keep s t r step (leaf_outcome g text leaf.EndOfText (spot_at table s.place)) is.0 is.1 is.2 h
-read_so g text table keep s t (form.Leaf (leaf.Declare class)) r step is h = absurd is
+read_so g text table keep s t (form.Leaf (leaf.Declare class)) (Failed c) step is h =
+    let e : leaf_outcome g text (leaf.Declare class) (spot_at table s.place) ≡ Some (failed c is.2.0) = is.1 ∙ ap (λ o. Some o) is.2.1 in
+    subst (λ y. Does (tape_declares s y) step t) (sym e) (h (failed c is.2.0) (is.2.0, refl))
+read_so g text table keep s t (form.Leaf (leaf.Declare class)) (Took n) step is h = absurd is
+read_so g text table keep s t (form.Leaf (leaf.Declare class)) Nothing step is h = absurd is
 read_so g text table keep s t (form.Seq ps) r step is h = absurd is
 read_so g text table keep s t (form.Choice ps) r step is h = absurd is
 read_so g text table keep s t (form.Many p) r step is h = absurd is

@@ -11,14 +11,16 @@ use Rattle.pg_grammar_value.specs.Grammar.{Grammar}
 use Rattle.pg_grammar_value.specs.Sites.{class_at}
 use Rattle.pg_grammar_form.specs.ClassItems.{has_character}
 use Rattle.pg_grammar_form.specs.declared.class.ClassPart.{ClassPart}
+use Rattle.pg_grammar_form.specs.declared.operators_item.OperatorsItem.{OperatorsItem}
 use Rattle.pg_grammar_form.specs.declared.word_item.WordItem.{WordItem}
 use Rattle.pg_language.specs.Derives.{leaf_of}
 use Rattle.pg_language.specs.Errors.{Error, stopped_by, stopped_before, refused, refused_before, seen_at, no_messages_at, quote}
-use Rattle.pg_language.specs.Leaves.{satisfy_next, satisfy_outcome, not_followed_next, not_followed_outcome, string_outcome, end_outcome, some_word_outcome, word_next, word_outcome, word_read, matched, taken}
+use Rattle.pg_language.specs.Declarations.{Declaration, declaration_at, declaration_outcome}
+use Rattle.pg_language.specs.Leaves.{some_declare_outcome, satisfy_next, satisfy_outcome, not_followed_next, not_followed_outcome, string_outcome, end_outcome, some_word_outcome, word_next, word_outcome, word_read, matched, taken}
 use Rattle.pg_language.specs.Outcomes.{Outcome, ok, failed}
 use Rattle.pg_language.specs.Runs.{run_at}
 use Rattle.pg_table.specs.Tables.{Table}
-use Rattle.pg_machine_quick.specs.Readings.{Reads, IsWordReadAt}
+use Rattle.pg_machine_quick.specs.Readings.{Reads, IsUndeclaredAt, IsWordReadAt}
 use Rattle.pg_machine_quick.specs.Tape.{spot_at}
 use Rattle.pg_machine_plan.proofs.LeafVerdicts.{at_front}
 use Rattle.pg_machine_quick.proofs.Spans.{front_taken, past_front}
@@ -230,3 +232,14 @@ pub ended_word : (g : Grammar) (text : List ℕ) (item : WordItem) (number i : �
     (table : Table) → IsWordReadAt g text table i number (Failed false)
 ended_word g text item number i all is same none table =
     (word_outcome g text item (spot_at table i), ap (some_word_outcome g text (spot_at table i)) is, word_ended g text item table i (sym same ∙ none_left all none))
+
+-- ---- a declaration
+
+-- what has this outcome where one may stand
+pub declares_nothing : (g : Grammar) (text : List ℕ) (class : List ClassPart) (table : Table) (i : ℕ) (item : OperatorsItem) (d : Declaration) (c : Bool) (e : Error) → g.operators ≡ Some item →
+    d ≡ declaration_at g text item class i → declaration_outcome text (spot_at table i) d ≡ failed c e → IsUndeclaredAt g text table i class (Failed c)
+declares_nothing g text class table i item d c e some there o = (
+  failed c e,
+  ap (λ x. some_declare_outcome g text class (spot_at table i) x) some ∙ ap (λ x. Some (declaration_outcome text (spot_at table i) x)) (sym there) ∙ ap (λ x. Some x) o,
+  (e, refl),
+)

@@ -7,7 +7,7 @@ use Rattle.pg_grammar_form.specs.Forms.{Node}
 use Rattle.pg_grammar_form.specs.declared.decl.Role.TheVariants.{InfixRight}
 use Rattle.pg_grammar_form.specs.declared.form.Form.TheVariants as form
 use Rattle.pg_grammar_form.specs.declared.side.Side.TheVariants.{Right}
-use Rattle.pg_grammar_form.specs.declared.used.BuilderUse.{BuilderUse}
+use Rattle.pg_grammar_form.specs.declared.used.ChainBuilder.{ChainBuilder}
 use Rattle.pg_grammar_value.specs.declared.trail.TrailItem.{TrailItem}
 use Rattle.pg_language.specs.Answers.{Given, Answers, AnswersLinks, link, separator_failed, separator_ok, operand_failed, operand_ok}
 use Rattle.pg_language.specs.Derives.{Spot}
@@ -34,7 +34,7 @@ abbrev pub of_right_links : Given → Shape → ℕ → ℕ → List Tree → Sp
 of_right_links G shape p q left a = λ o m. (k : ℕ) × AnswersLinks G Right shape p q left k a o m
 
 -- what is at the head of a chain's links, and where a link is noted
-pub record IsRightHead (P : Program) (keep : Keep) (r head table round out p q : ℕ) (used : BuilderUse) : Type 0 where
+pub record IsRightHead (P : Program) (keep : Keep) (r head table round out p q : ℕ) (used : ChainBuilder) : Type 0 where
   pub chain : slice_get P.given.grammar.nodes r ≡ Some (form.Chain Right used p q)
   pub pick : slice_get P.plan.code head ≡ Some (Pick table)
   pub arms : (a : Spot) (arm : Arm) → chosen P.plan table (slice_get P.given.text a.place) ≡ Some arm → GoesRound P keep (head + 1) out a arm q [] (ComesTo P.plan (head + 1))
@@ -52,13 +52,13 @@ on_rest P l keep end k x n t c i e (ok d b w u g) h =
 on_rest P l keep end k x n t c i e (failed d g) h = same_back P l k n ((x || c) || d) (x || (c || d)) t (or_assoc x c d) h
 on_rest P l keep end k x n t c i e empty_round h = h
 
-linked_forest : (keep : Keep) (used : BuilderUse) (left v w : List Tree) →
+linked_forest : (keep : Keep) (used : ChainBuilder) (left v w : List Tree) →
     folded_by keep used (added keep (added keep [] left) v ++ added keep [] w) ≡ added keep [] (built used.shape [] (left ++ v ++ w) ∷ [])
 linked_forest Kept used left v w = refl
 linked_forest Hidden used left v w = refl
 
 -- what waits is folded with what came after it
-folds_on : (P : Program) (l r p q end : ℕ) (keep : Keep) (used : BuilderUse) (rank i c : ℕ) (left v : List Tree) (T : Table) (k : List Frame) (x : Bool) (o : Outcome) (n : ℕ) (t : State) →
+folds_on : (P : Program) (l r p q end : ℕ) (keep : Keep) (used : ChainBuilder) (rank i c : ℕ) (left v : List Tree) (T : Table) (k : List Frame) (x : Bool) (o : Outcome) (n : ℕ) (t : State) →
     slice_get P.given.grammar.nodes r ≡ Some (form.Chain Right used p q) → slice_get P.plan.code end ≡ Some (FoldLinks keep r) →
     onward P l keep end (operates rank InfixRight i c (added keep (added keep [] left) v) T ∷ k) [] x o n ≡ Some t →
     Onto P l keep end k x (as_finished Right used.shape left v o) n t
@@ -79,7 +79,7 @@ folds_on P l r p q end keep used rank i c left v T k x empty_round n t chain cod
 
 -- ---- links
 
-module _ (P : Program) (N : ℕ) (claim : Claim P N) (keep : Keep) (r head table round out p q : ℕ) (used : BuilderUse)
+module _ (P : Program) (N : ℕ) (claim : Claim P N) (keep : Keep) (r head table round out p q : ℕ) (used : ChainBuilder)
     (is : IsRightHead P keep r head table round out p q used) where
   -- the runs from the head on, of fewer turns
   abbrev Rest : ℕ → State → Type 0

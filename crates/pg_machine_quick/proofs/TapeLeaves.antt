@@ -18,7 +18,7 @@ use Rattle.pg_language.specs.Leaves.{leaf_outcome, satisfy_next, not_followed_ne
 use Rattle.pg_language.specs.Outcomes.{Outcome, ok, failed, empty_round}
 use Rattle.pg_language.specs.Runs.{run_at}
 use Rattle.pg_table.specs.Tables.{Table}
-use Rattle.pg_machine_quick.specs.Tape.{tape, tape_goes, spot_at, tape_has_read, tape_reads, tape_spans}
+use Rattle.pg_machine_quick.specs.Tape.{tape, tape_goes, spot_at, tape_has_read, tape_declares, tape_reads, tape_spans}
 use Rattle.pg_machine_quick.specs.Turns.{State, state, goes, added, has_read, reads, spans, leaves_of, is_some_character}
 use Rattle.pg_machine_plan.specs.declared.instruction.Keep.{Keep}
 use Rattle.pg_machine_quick.proofs.TapeStates.{below, waiting, flat, IsFine, Follows, joined_trees, added_fine, back_follows}
@@ -93,6 +93,13 @@ leaf_follows G table keep s l fine h =
     subst (λ (a : Spot). Follows table (tape_has_read keep (flat s) (leaf_outcome G.grammar G.text l a)) (has_read keep s (leaf_outcome G.grammar G.text l s.spot)))
     (sym (one_spot table s.spot fine.spot)) (outcome_follows table keep s (leaf_outcome G.grammar G.text l s.spot) fine h)
 
+-- a declaration that fails
+declares_follow : (table : Table) (keep : Keep) (s : State) (x : Option Outcome) → IsFine table s → Follows table (tape_declares (flat s) x) (has_read keep s x)
+declares_follow table keep s (Some (failed c e)) fine = outcome_follows table keep s (Some (failed c e)) fine tt
+declares_follow table keep s (Some (ok c b v t e)) fine = tt
+declares_follow table keep s (Some empty_round) fine = tt
+declares_follow table keep s None fine = tt
+
 pub reads_follow : (G : Given) (table : Table) (keep : Keep) (s : State) (n : Option Node) → IsFine table s → Follows table (tape_reads G table keep (flat s) n) (reads G keep s n)
 reads_follow G table keep s None fine = tt
 reads_follow G table keep s (Some (form.Leaf (leaf.Satisfy class))) fine =
@@ -103,7 +110,9 @@ reads_follow G table keep s (Some (form.Leaf (leaf.Word w))) fine =
 reads_follow G table keep s (Some (form.Leaf (leaf.NotFollowedBy class))) fine =
     leaf_follows G table keep s (leaf.NotFollowedBy class) fine (not_followed_leaves G.grammar class s.spot (slice_get G.text s.spot.place))
 reads_follow G table keep s (Some (form.Leaf leaf.EndOfText)) fine = leaf_follows G table keep s leaf.EndOfText fine (end_leaves G.text s.spot)
-reads_follow G table keep s (Some (form.Leaf (leaf.Declare class))) fine = tt
+reads_follow G table keep s (Some (form.Leaf (leaf.Declare class))) fine =
+    subst (λ (a : Spot). Follows table (tape_declares (flat s) (leaf_outcome G.grammar G.text (leaf.Declare class) a)) (has_read keep s (leaf_outcome G.grammar G.text (leaf.Declare class) s.spot)))
+    (sym (one_spot table s.spot fine.spot)) (declares_follow table keep s (leaf_outcome G.grammar G.text (leaf.Declare class) s.spot) fine)
 reads_follow G table keep s (Some (form.Seq ps)) fine = tt
 reads_follow G table keep s (Some (form.Choice ps)) fine = tt
 reads_follow G table keep s (Some (form.Many p)) fine = tt

@@ -6,7 +6,7 @@ use Rattle.pg_grammar_form.specs.Forms.{Node}
 use Rattle.pg_grammar_form.specs.declared.decl.Role.{Role}
 use Rattle.pg_grammar_form.specs.declared.decl.Role.TheVariants.{InfixRight}
 use Rattle.pg_grammar_form.specs.declared.form.Form.TheVariants as form
-use Rattle.pg_grammar_form.specs.declared.used.BuilderUse.{BuilderUse}
+use Rattle.pg_grammar_form.specs.declared.used.ChainBuilder.{ChainBuilder}
 use Rattle.pg_language.specs.Derives.{Spot}
 use Rattle.pg_table.specs.Tables.{Table}
 use Rattle.pg_machine_quick.specs.Tape.{tape, tape_folded_by, tape_linked, tape_last_unlinked, tape_unlinked_from, tape_links_folded, begin_of}
@@ -16,12 +16,12 @@ use Rattle.pg_machine_plan.specs.declared.instruction.Keep.TheVariants.{Kept, Hi
 use Rattle.pg_machine_quick.proofs.TapeStates.{below, waiting, flat, IsFine, Follows, kept_front, dropped_front}
 use Rattle.pg_machine_quick.proofs.TapeRows.{passed_follows}
 
-pub folded_trees : (keep : Keep) (used : BuilderUse) (z f : List Tree) → tape_folded_by keep used (length z) (z ++ f) ≡ z ++ folded_by keep used f
+pub folded_trees : (keep : Keep) (used : ChainBuilder) (z f : List Tree) → tape_folded_by keep used (length z) (z ++ f) ≡ z ++ folded_by keep used f
 folded_trees Kept used z f = ap (λ v. v ++ built used.shape [] (drop (length z) (z ++ f)) ∷ []) (kept_front z f)
     ∙ ap (λ v. z ++ built used.shape [] v ∷ []) (dropped_front z f)
 folded_trees Hidden used z f = refl
 
-linked_trees : (keep : Keep) (used : BuilderUse) (z g f : List Tree) → tape_folded_by keep used (length z) ((z ++ g) ++ f) ≡ z ++ folded_by keep used (g ++ f)
+linked_trees : (keep : Keep) (used : ChainBuilder) (z g f : List Tree) → tape_folded_by keep used (length z) ((z ++ g) ++ f) ≡ z ++ folded_by keep used (g ++ f)
 linked_trees keep used z g f = ap (tape_folded_by keep used (length z)) (append_assoc z g f) ∙ folded_trees keep used z (g ++ f)
 
 pub linked_follows : (table : Table) (s : State) → IsFine table s → Follows table (tape_linked (flat s)) (linked s)
@@ -33,7 +33,7 @@ linked_follows table s fine =
       record { spot = fine.spot; stack = (fine.spot, fine.stack) },
     )
 
-unlinked_above : (table : Table) (keep : Keep) (used : BuilderUse) (rank i c : ℕ) (role : Role) (g : List Tree) (T : Table) (pc : ℕ) (a : Spot) (k : List Frame) (f : List Tree) (n : ℕ) (x : Bool) →
+unlinked_above : (table : Table) (keep : Keep) (used : ChainBuilder) (rank i c : ℕ) (role : Role) (g : List Tree) (T : Table) (pc : ℕ) (a : Spot) (k : List Frame) (f : List Tree) (n : ℕ) (x : Bool) →
     IsFine table (state pc a (operates rank role i c g T ∷ k) f n x) →
     Follows table (tape_unlinked_from keep used (flat (state pc a (operates rank role i c g T ∷ k) f n x)) (waiting k) (begin_of (waiting k)))
     (unlinked keep used (state pc a (operates rank role i c g T ∷ k) f n x) (operates rank role i c g T ∷ k))
@@ -54,7 +54,7 @@ unlinked_above table keep used rank i c role g T pc a (operates rank' role' j d 
 )
 unlinked_above table keep used rank i c role g T pc a (marks target h b y ∷ k) f n x fine = tt
 
-unlinked_by : (table : Table) (keep : Keep) (used : BuilderUse) (pc : ℕ) (a : Spot) (k : List Frame) (f : List Tree) (n : ℕ) (x : Bool) → IsFine table (state pc a k f n x) →
+unlinked_by : (table : Table) (keep : Keep) (used : ChainBuilder) (pc : ℕ) (a : Spot) (k : List Frame) (f : List Tree) (n : ℕ) (x : Bool) → IsFine table (state pc a k f n x) →
     Follows table (tape_last_unlinked keep used (flat (state pc a k f n x)) (waiting k)) (unlinked keep used (state pc a k f n x) k)
 unlinked_by table keep used pc a [] f n x fine = passed_follows table 1 (state pc a [] f n x) fine
 unlinked_by table keep used pc a (returns target ∷ k) f n x fine = passed_follows table 1 (state pc a (returns target ∷ k) f n x) fine

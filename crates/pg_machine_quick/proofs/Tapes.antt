@@ -6,7 +6,7 @@ use Rattle.pg_grammar_form.specs.Forms.{Node}
 use Rattle.pg_grammar_form.specs.declared.form.Form.TheVariants as form
 use Rattle.pg_grammar_form.specs.declared.form.Around.{Around}
 use Rattle.pg_grammar_form.specs.declared.form.Around.TheVariants as kind
-use Rattle.pg_grammar_form.specs.declared.used.BuilderUse.{BuilderUse}
+use Rattle.pg_grammar_form.specs.declared.used.ChainBuilder.{ChainBuilder}
 use Rattle.pg_language.specs.Answers.{Given}
 use Rattle.pg_language.specs.WholeTexts.{AnswersText}
 use Rattle.pg_language.specs.Derives.{Spot, left_by, made_by}
@@ -85,7 +85,7 @@ closed_follows G table keep s (Some (form.Rule r)) fine = tt
 closed_follows G table keep s (Some (form.Expression builders p)) fine = tt
 closed_follows G table keep s (Some (form.Around k p)) fine = around_follows G table keep k p s.pc s.spot s.stack s.forest s.nodes s.taken fine
 
-chain_follows : (table : Table) (keep : Keep) (side : Side) (used : BuilderUse) (p q pc : ℕ) (a : Spot) (k : List Frame) (f : List Tree) (n : ℕ) (x : Bool) →
+chain_follows : (table : Table) (keep : Keep) (side : Side) (used : ChainBuilder) (p q pc : ℕ) (a : Spot) (k : List Frame) (f : List Tree) (n : ℕ) (x : Bool) →
     IsFine table (state pc a k f n x) →
     Follows table (tape_folds keep used (flat (state pc a k f n x)) (waiting k)) (folded keep (state pc a k f n x) (Some (form.Chain side used p q)))
 chain_follows table keep side used p q pc a [] f n x fine = tt

@@ -1,16 +1,20 @@
 -- What stands at a place, and where turns lead.
-use Rattle.std.specs.Prelude.{◌≡◌, ℕ, List, Some}
-use Rattle.pg_grammar_form.specs.declared.decl.Role.TheVariants.{InfixRight, InfixLeft, InfixNone}
+use Rattle.std.specs.Prelude.{◌≡◌, ◌+◌, ℕ, List, Some, None, slice_get}
+use Rattle.pg_grammar_form.specs.declared.decl.Role.{Role}
+use Rattle.pg_grammar_form.specs.declared.decl.Role.TheVariants.{InfixRight, InfixLeft, InfixNone, Postfix}
 use Rattle.pg_grammar_form.specs.declared.operators_item.OperatorsItem.{OperatorsItem}
 use Rattle.pg_language.specs.Answers.{Given}
 use Rattle.pg_language_operators.specs.Standings.{Stands}
-use Rattle.pg_machine_plan.specs.Plans.{Program, program}
+use Rattle.pg_machine_plan.specs.Plans.{Plan, Program, program}
 use Rattle.pg_machine_plan.specs.declared.instruction.Instruction.{Instruction}
-use Rattle.pg_machine_quick.specs.Ran.{Makes}
+use Rattle.pg_machine_plan.specs.declared.instruction.Instruction.TheVariants.{ReadPostfix, ReadInfix, Settle}
+use Rattle.pg_machine_plan.specs.declared.instruction.Keep.{Keep}
+use Rattle.pg_machine_quick.specs.Ran.{LeadsTo, Makes}
 use Rattle.pg_machine_quick.specs.Tape.{Tape, found_at, tape_act, tape_first_joined, tape_passed}
 use Rattle.pg_machine_quick.specs.declared.context.Context.{Context}
 use Rattle.pg_machine_quick.specs.declared.context.Look.{Look}
 use Rattle.pg_machine_quick.specs.declared.frame.Frame.{Frame}
+use Rattle.pg_machine_quick.specs.declared.passing.RowEnd.{RowEnd}
 use Rattle.pg_machine_quick.specs.declared.step.Step.{Step}
 use Rattle.pg_table.specs.Tables.{Table}
 
@@ -38,3 +42,21 @@ Passes l k i count = (table : Table) (s : Tape) → table.operators ≡ l.contex
 abbrev pub IsPassedFirst : Look → Table → ℕ → ℕ → Type 0
 IsPassedFirst l table row count = (s : Tape) → s.place ≡ l.place → tape_first_joined row s (found_at (given_of l.context) table s.place row InfixRight)
     (found_at (given_of l.context) table s.place row InfixLeft) (found_at (given_of l.context) table s.place row InfixNone) ≡ tape_passed count s
+
+-- nothing is read at the place by a row and a role
+abbrev pub NoneRead : Look → ℕ → Role → Type 0
+NoneRead l row role = (table : Table) → table.operators ≡ l.context.operators.now → None ≡ found_at (given_of l.context) table l.place row role
+
+-- a row reads nothing after its first operand, and its end has so many instructions
+abbrev pub IsPassedEnd : Look → ℕ → ℕ → Type 0
+IsPassedEnd l row count = NoneRead l row Postfix × (n : ℕ) × ((table : Table) → table.operators ≡ l.context.operators.now → IsPassedFirst l table row n) × (count ≡ n + 2)
+
+-- the end of a row of an expression is there
+abbrev pub IsRowEnd : Plan → ℕ → RowEnd → Type 0
+IsRowEnd plan pc e = (first second third : Keep) × (slice_get plan.code pc ≡ Some (Settle first e.node e.rank))
+    × (slice_get plan.code (pc + 1) ≡ Some (ReadPostfix second e.node e.row)) × (slice_get plan.code (pc + 1 + 1) ≡ Some (ReadInfix third e.node e.row))
+
+-- from one place in the code to another it only passes
+abbrev pub IsPassedTo : Look → Tape → ℕ → ℕ → Type 0
+IsPassedTo l s pc next = (table : Table) → table.operators ≡ l.context.operators.now →
+    LeadsTo (program_of l.context) table (record s { pc = pc }) (record s { pc = next })

@@ -2,6 +2,7 @@
 use Rattle.std.specs.Prelude.{◌≡◌, ◌+◌, ℕ, List, [], ◌∷◌, true, false, Some, take, drop, slice_get}
 use Rattle.pg_grammar_value.specs.declared.trail.TrailItem.{TrailItem}
 use Rattle.pg_grammar_form.specs.Forms.{Node}
+use Rattle.pg_grammar_form.specs.declared.class.ClassPart.{ClassPart}
 use Rattle.pg_grammar_form.specs.declared.form.Form.TheVariants as form
 use Rattle.pg_grammar_form.specs.declared.form.Leaf.TheVariants as leaf
 use Rattle.pg_grammar_value.specs.Grammar.{Grammar}
@@ -25,8 +26,13 @@ Reads text table i o (Failed c) = (e : Error) × (o ≡ failed c e)
 abbrev pub IsWordReadAt : Grammar → List ℕ → Table → ℕ → ℕ → Reading → Type 0
 IsWordReadAt g text table i w r = (o : Outcome) × (some_word_outcome g text (spot_at table i) (slice_get g.words w) ≡ Some o) × Reads text table i o r
 
--- a node is a leaf that reads so at a place; a declaration isn't read
+-- a declaration, after whose keyword no character of the class may come, fails so at a place
+abbrev pub IsUndeclaredAt : Grammar → List ℕ → Table → ℕ → List ClassPart → Reading → Type 0
+IsUndeclaredAt g text table i class (Failed c) = (o : Outcome) × (leaf_outcome g text (leaf.Declare class) (spot_at table i) ≡ Some o) × Reads text table i o (Failed c)
+IsUndeclaredAt g text table i class _ = ⊥
+
+-- a node is a leaf that reads so at a place; of a declaration only a failure is told
 abbrev pub IsReadAt : Grammar → List ℕ → Table → ℕ → Node → Reading → Type 0
-IsReadAt g text table i (form.Leaf (leaf.Declare class)) r = ⊥
+IsReadAt g text table i (form.Leaf (leaf.Declare class)) r = IsUndeclaredAt g text table i class r
 IsReadAt g text table i (form.Leaf l) r = (o : Outcome) × (leaf_outcome g text l (spot_at table i) ≡ Some o) × Reads text table i o r
 IsReadAt g text table i _ r = ⊥

@@ -1,4 +1,4 @@
--- The same turns with all trees in one list: frames note how many there were. No declaration is read, so one table of operators is in force throughout.
+-- The same turns with all trees in one list: frames note how many there were. Where a text declares an operator the run gives up, so one table is in force throughout.
 use Rattle.std.specs.Prelude.{◌+◌, ◌==◌, ℕ, zero, suc, List, [], ◌∷◌, ◌++◌, Bool, true, false, ◌||◌, ◌&&◌, Option, Some, None, length, take, drop, slice_get, option_map, if◌then◌else◌}
 use Rattle.std.specs.Str.{encode_utf8_all}
 use Rattle.pg_tree.specs.Trees.{Tree}
@@ -11,6 +11,7 @@ use Rattle.pg_grammar_form.specs.declared.decl.Role.{Role}
 use Rattle.pg_grammar_form.specs.declared.decl.Role.TheVariants.{InfixLeft, InfixRight, InfixNone, Prefix, Postfix}
 use Rattle.pg_grammar_form.specs.declared.operators_item.OperatorsItem.{OperatorsItem}
 use Rattle.pg_grammar_form.specs.declared.used.BuilderUse.{BuilderUse}
+use Rattle.pg_grammar_form.specs.declared.used.ChainBuilder.{ChainBuilder}
 use Rattle.pg_grammar_form.specs.declared.used.OperatorBuilders.{OperatorBuilders}
 use Rattle.pg_table.specs.Rows.{rows}
 use Rattle.pg_language.specs.Answers.{Given}
@@ -77,9 +78,13 @@ tape_has_read keep s (Some (ok c b v t e)) = tape_goes (tape (s.pc + 1) b.place 
 tape_has_read keep s (Some (failed c e)) = tape_back (s.taken || c) (s.nodes + 1) s.trees s.stack
 tape_has_read keep s (Some empty_round) = tape_gives_up
 
--- a leaf that declares nothing
+-- a declaration fails, or the table would change
+abbrev pub tape_declares : Tape → Option Outcome → TapeTurn
+tape_declares s (Some (failed c e)) = tape_back (s.taken || c) (s.nodes + 1) s.trees s.stack
+tape_declares s _ = tape_gives_up
+
 abbrev pub tape_reads : Given → Table → Keep → Tape → Option Node → TapeTurn
-tape_reads G table keep s (Some (form.Leaf (leaf.Declare class))) = tape_gives_up
+tape_reads G table keep s (Some (form.Leaf (leaf.Declare class))) = tape_declares s (leaf_outcome G.grammar G.text (leaf.Declare class) (spot_at table s.place))
 tape_reads G table keep s (Some (form.Leaf l)) = tape_has_read keep s (leaf_outcome G.grammar G.text l (spot_at table s.place))
 tape_reads G table keep s _ = tape_gives_up
 
@@ -110,11 +115,11 @@ tape_closed G keep s (Some (form.Around kind p)) = tape_ends G.text keep kind s 
 tape_closed G keep s _ = tape_gives_up
 
 -- the trees after so many are one
-abbrev pub tape_folded_by : Keep → BuilderUse → ℕ → List Tree → List Tree
+abbrev pub tape_folded_by : Keep → ChainBuilder → ℕ → List Tree → List Tree
 tape_folded_by Kept used count f = take count f ++ built used.shape [] (drop count f) ∷ []
 tape_folded_by Hidden used count f = f
 
-abbrev pub tape_folds : Keep → BuilderUse → Tape → List Frame → TapeTurn
+abbrev pub tape_folds : Keep → ChainBuilder → Tape → List Frame → TapeTurn
 tape_folds keep used s (Holds count ∷ k) = tape_goes (tape (s.pc + 1) s.place s.stack (tape_folded_by keep used count s.trees) s.nodes s.taken)
 tape_folds keep used s _ = tape_gives_up
 
@@ -242,12 +247,12 @@ abbrev pub tape_linked : Tape → TapeTurn
 tape_linked s =
     tape_goes (tape (s.pc + 1) s.place (Operates (operation 0 InfixRight s.place 0 (length s.trees)) ∷ s.stack) s.trees s.nodes s.taken)
 
-abbrev pub tape_unlinked_from : Keep → BuilderUse → Tape → List Frame → Option ℕ → TapeTurn
+abbrev pub tape_unlinked_from : Keep → ChainBuilder → Tape → List Frame → Option ℕ → TapeTurn
 tape_unlinked_from keep used s k None = tape_gives_up
 tape_unlinked_from keep used s k (Some n) = tape_goes (tape s.pc s.place k (tape_folded_by keep used n s.trees) s.nodes s.taken)
 
 -- what waits last
-abbrev pub tape_last_unlinked : Keep → BuilderUse → Tape → List Frame → TapeTurn
+abbrev pub tape_last_unlinked : Keep → ChainBuilder → Tape → List Frame → TapeTurn
 tape_last_unlinked keep used s (Operates o ∷ k) = tape_unlinked_from keep used s k (begin_of k)
 tape_last_unlinked keep used s _ = tape_passed 1 s
 

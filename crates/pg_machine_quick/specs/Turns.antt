@@ -11,6 +11,7 @@ use Rattle.pg_grammar_form.specs.declared.decl.Role.{Role}
 use Rattle.pg_grammar_form.specs.declared.decl.Role.TheVariants.{InfixLeft, InfixRight, InfixNone, Prefix, Postfix}
 use Rattle.pg_grammar_form.specs.declared.operators_item.OperatorsItem.{OperatorsItem}
 use Rattle.pg_grammar_form.specs.declared.used.BuilderUse.{BuilderUse}
+use Rattle.pg_grammar_form.specs.declared.used.ChainBuilder.{ChainBuilder}
 use Rattle.pg_grammar_form.specs.declared.used.OperatorBuilders.{OperatorBuilders}
 use Rattle.pg_table.specs.Rows.{rows}
 use Rattle.pg_table.specs.Tables.{Table}
@@ -127,7 +128,7 @@ closed G keep s (Some (form.Around k p)) = closes G keep k s s.stack
 closed G keep s _ = gives_up
 
 -- the forest as one tree
-abbrev pub folded_by : Keep → BuilderUse → List Tree → List Tree
+abbrev pub folded_by : Keep → ChainBuilder → List Tree → List Tree
 folded_by Kept used f = built used.shape [] f ∷ []
 folded_by Hidden used f = f
 
@@ -250,7 +251,7 @@ abbrev pub linked : State → Turn
 linked s = goes (state (s.pc + 1) s.spot (operates 0 InfixRight s.spot.place 0 s.forest s.spot.table ∷ s.stack) [] s.nodes s.taken)
 
 -- what waits last becomes one tree with what is after it
-abbrev pub unlinked : Keep → BuilderUse → State → List Frame → Turn
+abbrev pub unlinked : Keep → ChainBuilder → State → List Frame → Turn
 unlinked keep used s (operates rank role i c f T ∷ k) = goes (state s.pc s.spot k (folded_by keep used (f ++ s.forest)) s.nodes s.taken)
 unlinked keep used s _ = passed 1 s
 

@@ -2,6 +2,7 @@
 #![tactic(auto)]
 
 mod applying;
+mod arms;
 mod context;
 mod expressions;
 mod frame;

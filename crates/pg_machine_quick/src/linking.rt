@@ -8,7 +8,7 @@ use crate::frame::{Frame, Operation};
 use crate::running::Running;
 use crate::step::Step;
 use crate::trees::fold;
-use pg_grammar_form::{BuilderUse, Form, NodeId, Role};
+use pg_grammar_form::{ChainBuilder, Form, NodeId, Role};
 use pg_grammar_value::Grammar;
 use pg_machine_plan::Keep;
 use std::alloc::AllocError;
@@ -58,7 +58,7 @@ impl<'a> Running<'a> {
     }
 
     /// Folds what waits last with what is after it, or goes on where nothing waits.
-    fn fold_last(&mut self, keep: Keep, used: &BuilderUse) -> Result<Step, AllocError>
+    fn fold_last(&mut self, keep: Keep, used: &ChainBuilder) -> Result<Step, AllocError>
         ensures { IfOk result (λ step. Does (tape_last_unlinked keep used.now (shown self.old) (shown self.old).stack) step (shown self.new)) }
     {
         match self.last() {
@@ -69,7 +69,7 @@ impl<'a> Running<'a> {
     }
 
     /// Folds what waits last with what is after it.
-    fn fold_link(&mut self, keep: Keep, used: &BuilderUse) -> Result<Step, AllocError>
+    fn fold_link(&mut self, keep: Keep, used: &ChainBuilder) -> Result<Step, AllocError>
         ensures { IfOk result (λ step. Does (tape_last_unlinked keep used.now (shown self.old) (shown self.old).stack) step (shown self.new)) }
     {
         match self.frames.pop() {
@@ -80,7 +80,7 @@ impl<'a> Running<'a> {
     }
 
     /// Folds the trees since the operand before the link begins.
-    fn fold_from(&mut self, keep: Keep, used: &BuilderUse) -> Result<Step, AllocError>
+    fn fold_from(&mut self, keep: Keep, used: &ChainBuilder) -> Result<Step, AllocError>
         ensures { IfOk result (λ step. Does (tape_unlinked_from keep used.now (shown self.old) (shown self.old).stack (begin_of (shown self.old).stack)) step (shown self.new)) }
     {
         let Some(begin) = self.begin() else {

@@ -2,7 +2,7 @@
 
 ghost use Rattle.std.specs.Prelude.{◌≡◌, ℕ, List, slice_get, IfSome};
 ghost use Rattle.pg_machine_plan.specs.declared.instruction.Instruction.TheVariants.{ReadPrefix, ReadPostfix, ReadInfix, Settle};
-ghost use Rattle.pg_machine_quick.specs.Looks.{IsLook, IsPassedFirst, Passes, program_of};
+ghost use Rattle.pg_machine_quick.specs.Looks.{IsLook, IsPassedEnd, IsPassedFirst, IsPassedTo, IsRowEnd, Passes, program_of};
 ghost use Rattle.pg_machine_quick.specs.Ran.{LeadsTo};
 ghost use Rattle.pg_machine_quick.specs.Running.{shown};
 ghost use Rattle.pg_machine_quick.specs.Tape.{tape_act, tape_goes};
@@ -14,7 +14,7 @@ use crate::infix::infix_rank;
 use crate::rows::builders_at;
 use crate::running::Running;
 use pg_grammar_form::{NodeId, Role};
-use pg_machine_plan::{Instruction, Keep};
+use pg_machine_plan::{Instruction, Keep, Plan};
 
 /// How many instructions are passed at once.
 const AT_ONCE: usize = 1_000;
@@ -36,8 +36,40 @@ impl<'a> Running<'a> {
         pc
     }
 
-    /// Where it goes on after the instruction there, if that only passes.
+    /// Where it goes on from there, if it only passes.
+    #[tactic(auto, using(crate::proofs::RowPasses::one_passed))]
     fn next(&self, look: Look<'_>, pc: usize) -> Option<usize>
+        requires look { IsLook look }
+        requires place { look.place ≡ self.now.place }
+        ensures { IfSome result (IsPassedTo look.entry (shown self.now) pc) }
+    {
+        match self.past_row(look, pc) {
+            Some(next) => Some(next),
+            None => self.past_one(look, pc),
+        }
+    }
+
+    /// Where it goes on after the end of a row, which is gone over at once, if it only passes there.
+    fn past_row(&self, look: Look<'_>, pc: usize) -> Option<usize>
+        requires look { IsLook look }
+        requires place { look.place ≡ self.now.place }
+        ensures { IfSome result (IsPassedTo look.entry (shown self.now) pc) }
+    {
+        let end = row_end_at(look.context.plan, pc)?;
+        let _builders = builders_at(look.context.grammar, end.node)?;
+        let infix = infix_rank(end.row)?;
+        let next = row_end_length(look, end.row)?.checked_add(pc)?;
+        match self.awaited(end.rank) {
+            Some(_) => None,
+            None => match self.awaited(infix) {
+                Some(_) => None,
+                None => Some(next),
+            },
+        }
+    }
+
+    /// Where it goes on after the instruction there, if that only passes.
+    fn past_one(&self, look: Look<'_>, pc: usize) -> Option<usize>
         requires look { IsLook look }
         requires place { look.place ≡ self.now.place }
         ensures { IfSome result (λ next. (table : Table) → table.operators ≡ look.entry.context.operators.now → tape_act (program_of look.entry.context) table (record (shown self.now) { pc = pc }) (slice_get look.entry.context.plan.now.code pc) ≡ tape_goes (record (shown self.now) { pc = next })) }
@@ -102,6 +134,51 @@ impl<'a> Running<'a> {
             Some(_) => None,
             None => Some(1),
         }
+    }
+}
+
+/// The end of a row: an operator that waits is applied if its rank is this, and then a postfix operator and an infix operator of the row are read.
+#[derive(Clone, Copy)]
+pub struct RowEnd {
+    pub node: NodeId,
+    pub row: usize,
+    pub rank: usize,
+}
+
+/// The end of a row of an expression, if its three instructions are there.
+fn row_end_at(plan: &Plan, pc: usize) -> Option<RowEnd>
+    ensures { IfSome result (IsRowEnd plan.now pc) }
+{
+    let Some(Instruction::Settle(_, node, rank)) = plan.code().get(pc) else {
+        return None;
+    };
+    let second = pc.checked_add(1)?;
+    let Some(Instruction::ReadPostfix(_, postfix, row)) = plan.code().get(second) else {
+        return None;
+    };
+    let third = second.checked_add(1)?;
+    let Some(Instruction::ReadInfix(_, infix, same)) = plan.code().get(third) else {
+        return None;
+    };
+    if postfix.index() == node.index() && infix.index() == node.index() && *same == *row {
+        Some(RowEnd {
+            node: *node,
+            row: *row,
+            rank: *rank,
+        })
+    } else {
+        None
+    }
+}
+
+/// How many instructions the end of a row has, if no operator of the row is read that may stand after its first operand.
+fn row_end_length(look: Look<'_>, row: usize) -> Option<usize>
+    requires look { IsLook look }
+    ensures { IfSome result (IsPassedEnd look.entry row) }
+{
+    match look.read(row.checked_add(1)?, Role::Postfix) {
+        Some(_) => None,
+        None => first_infix_length(look, row)?.checked_add(2),
     }
 }
 

@@ -5,13 +5,14 @@ ghost use Rattle.std.specs.List.{common_prefix_len, prefix_len};
 ghost use Rattle.pg_grammar_form.specs.ClassItems.{has_character};
 ghost use Rattle.pg_grammar_value.specs.Sites.{class_at};
 ghost use Rattle.pg_language.specs.Leaves.{satisfy_outcome, not_followed_outcome, string_outcome, end_outcome};
-ghost use Rattle.pg_machine_quick.specs.Readings.{Reads, IsReadAt, IsWordReadAt};
+ghost use Rattle.pg_machine_quick.specs.Readings.{Reads, IsReadAt, IsUndeclaredAt, IsWordReadAt};
 ghost use Rattle.pg_machine_quick.specs.Tape.{spot_at};
 ghost use Rattle.pg_table.specs.Tables.{Table};
 
 use pg_grammar_classes::ClassSite;
 use pg_grammar_form::{Leaf, Node, NodeId, WordId, WordItem};
 use pg_grammar_value::Grammar;
+use pg_language_declarations::{Declaration, declaration_at};
 use pg_text::Text;
 
 /// What a leaf reads.
@@ -25,7 +26,7 @@ pub enum Reading {
     Failed(bool),
 }
 
-/// What the leaf at a node reads at the place. None where the node isn't a leaf, or is a declaration, which isn't read here.
+/// What the leaf at a node reads at the place. None where the node isn't a leaf, or where the text declares an operator, since the table changes then.
 pub(crate) fn reading_at(
     grammar: &Grammar,
     text: &Text,
@@ -42,7 +43,7 @@ pub(crate) fn reading_at(
         Leaf::NotFollowedBy(_) => Some(not_followed(grammar, text, id, place)),
         Leaf::EndOfText => Some(end(text, place)),
         Leaf::Word(number) => word(grammar, text, *number, place),
-        Leaf::Declare(_) => None,
+        Leaf::Declare(_) => undeclared(grammar, text, id, place),
     }
 }
 
@@ -98,6 +99,19 @@ pub(crate) fn string(text: &Text, characters: &[char], place: usize) -> Reading
         Reading::Took(count)
     } else {
         Reading::Failed(count > 0)
+    }
+}
+
+/// How a declaration fails. None where the text declares an operator.
+fn undeclared(grammar: &Grammar, text: &Text, node: NodeId, place: usize) -> Option<Reading>
+    ensures { IfSome result (λ reading. (table : Table) → IsUndeclaredAt grammar.now text.now table place (class_at grammar.now (ClassSite.Node node)) reading) }
+{
+    let item = grammar.operators_item()?;
+    match declaration_at(grammar, text, item, ClassSite::Node(node), place) {
+        Declaration::NoKeyword => Some(Reading::Failed(false)),
+        Declaration::NoDigit(_) => Some(Reading::Failed(true)),
+        Declaration::NoSymbol(_) => Some(Reading::Failed(true)),
+        Declaration::Declared(_) => None,
     }
 }
 

@@ -23,9 +23,9 @@ use pg_text::Text;
 use pg_tree_placed::PlacedForest;
 use std::alloc::{AllocError, Global};
 
-/// Runs a plan that is right for the grammar (`judge`) over a text with a table of operators, for so many turns at most. Where it says something, the text is
-/// answered ok with these trees and so many nodes, and the table stays. None where it says nothing; that isn't an error. The only error is running out of
-/// memory.
+/// Runs a plan that is right for the grammar (`judge`) over a text with a table of operators, for so many turns at most; those of the code of rows at a place
+/// count as one. Where it says something, the text is answered ok with these trees and so many nodes, and the table stays. None where it says nothing; that
+/// isn't an error. The only error is running out of memory.
 pub fn attempt<'a>(
     alloc: Global,
     grammar: &Grammar,

@@ -13,7 +13,7 @@ use crate::frame::{Before, Frame};
 use crate::reading::Reading;
 use crate::running::Running;
 use crate::step::Step;
-use pg_grammar_form::{Around, BuilderUse};
+use pg_grammar_form::{Around, ChainBuilder};
 use pg_machine_plan::Keep;
 use pg_text::Text;
 use pg_tree_placed::PlacedForest;
@@ -139,14 +139,12 @@ impl<'a> Running<'a> {
     }
 
     /// The trees of a chain become one.
-    pub(crate) fn fold(&mut self, keep: Keep, used: &BuilderUse) -> Result<Step, AllocError>
+    #[tactic(auto, using(crate::proofs::Held::fold_held))]
+    pub(crate) fn fold(&mut self, keep: Keep, used: &ChainBuilder) -> Result<Step, AllocError>
         ensures { IfOk result (λ step. Does (tape_folds keep used.now (shown self.old) (shown self.old).stack) step (shown self.new)) }
     {
-        match self.frames.pop() {
-            Some(Frame::Holds(count)) => {
-                self.frames.push(Frame::Holds(count))?;
-                self.fold_after(keep, used, count)
-            }
+        match self.last() {
+            Some(Frame::Holds(count)) => self.fold_after(keep, used, count),
             Some(
                 Frame::Returns(_) | Frame::Encloses(_, _) | Frame::Operates(_) | Frame::Marks(_, _),
             )
@@ -158,7 +156,7 @@ impl<'a> Running<'a> {
     fn fold_after(
         &mut self,
         keep: Keep,
-        used: &BuilderUse,
+        used: &ChainBuilder,
         count: usize,
     ) -> Result<Step, AllocError>
         ensures { IfOk result (λ step. Does (tape_goes (tape (self.old.pc + 1) self.old.place (shown self.old).stack (tape_folded_by keep used.now count self.old.trees) self.old.nodes self.old.taken)) step (shown self.new)) }
@@ -289,7 +287,7 @@ fn make_kept(
 pub(crate) fn fold(
     trees: &mut PlacedForest<'_>,
     keep: Keep,
-    used: &BuilderUse,
+    used: &ChainBuilder,
     count: usize,
 ) -> Result<bool, AllocError>
     requires { count ≤ length trees.old }

@@ -7,16 +7,17 @@ ghost use Rattle.pg_machine_quick.specs.Running.{shown, Does};
 ghost use Rattle.pg_machine_quick.specs.Tape.{tape_act, tape_closed, tape_folded, tape_reads, tape_spans};
 ghost use Rattle.pg_table.specs.Tables.{Table};
 
+use crate::arms::arm_for;
 use crate::context::Context;
 use crate::reading::{after, counted, reading_at};
-use crate::rows::{instruction_at, is_of_rows};
+use crate::rows::instruction_at;
 use crate::running::Running;
 use crate::step::Step;
 use pg_grammar_classes::ClassSite;
 use pg_grammar_form::{Form, Leaf, NodeId};
 use pg_grammar_value::Grammar;
 use pg_language::Reading as Manner;
-use pg_machine_plan::{Instruction, Keep, chosen};
+use pg_machine_plan::{Instruction, Keep};
 use pg_text::Text;
 use std::alloc::AllocError;
 
@@ -26,50 +27,81 @@ impl<'a> Running<'a> {
         ensures { IfOk result (λ step. Leads context.entry (shown self.old) step (shown self.new)) }
     {
         match instruction_at(context.plan, self.pc) {
-            Some(instruction) => {
-                if is_of_rows(*instruction) {
-                    self.take_rows(context)
-                } else {
-                    self.act(context, *instruction)
-                }
-            }
+            Some(instruction) => self.turn_by(context, instruction),
             None => Ok(Step::GivesUp),
         }
     }
 
+    /// Makes a turn by the instruction that is there, or several.
+    fn turn_by(
+        &mut self,
+        context: Context<'_>,
+        instruction: &Instruction,
+    ) -> Result<Step, AllocError>
+        requires { slice_get context.plan.now.code self.old.pc ≡ Some instruction.now }
+        ensures { IfOk result (λ step. Leads context.entry (shown self.old) step (shown self.new)) }
+    {
+        match instruction {
+            Instruction::ReadPrefix(_)
+            | Instruction::ReadPostfix(_, _, _)
+            | Instruction::ReadInfix(_, _, _)
+            | Instruction::Settle(_, _, _) => self.take_rows(context),
+            Instruction::Enter
+            | Instruction::Read(_, _)
+            | Instruction::Span(_, _)
+            | Instruction::Jump(_)
+            | Instruction::Pick(_)
+            | Instruction::Call(_)
+            | Instruction::Return
+            | Instruction::Open(_)
+            | Instruction::Close(_, _)
+            | Instruction::Hold
+            | Instruction::Fold(_, _)
+            | Instruction::Link
+            | Instruction::FoldLinks(_, _)
+            | Instruction::Release
+            | Instruction::Rows(_)
+            | Instruction::Mark(_)
+            | Instruction::Commit(_)
+            | Instruction::Again(_)
+            | Instruction::Fail
+            | Instruction::Stop => self.act(context, instruction),
+        }
+    }
+
     /// Does what an instruction says, if it isn't one of rows.
-    fn act(&mut self, context: Context<'_>, instruction: Instruction) -> Result<Step, AllocError>
-        ensures { IfOk result (λ step. (table : Table) → table.operators ≡ context.entry.operators.now → Does (tape_act (program_of context.entry) table (shown self.old) (Some instruction)) step (shown self.new)) }
+    fn act(&mut self, context: Context<'_>, instruction: &Instruction) -> Result<Step, AllocError>
+        ensures { IfOk result (λ step. (table : Table) → table.operators ≡ context.entry.operators.now → Does (tape_act (program_of context.entry) table (shown self.old) (Some instruction.now)) step (shown self.new)) }
     {
         let grammar = context.grammar;
         let text = context.text;
         match instruction {
             Instruction::Enter => Ok(self.enter()),
-            Instruction::Read(keep, node) => self.read(keep, grammar, text, node),
-            Instruction::Span(keep, node) => self.span_node(keep, grammar, text, node),
-            Instruction::Jump(target) => Ok(self.jump(target)),
-            Instruction::Pick(table) => Ok(self.pick(chosen(
+            Instruction::Read(keep, node) => self.read(*keep, grammar, text, *node),
+            Instruction::Span(keep, node) => self.span_node(*keep, grammar, text, *node),
+            Instruction::Jump(target) => Ok(self.jump(*target)),
+            Instruction::Pick(table) => Ok(self.pick(arm_for(
                 context.plan,
-                table,
+                *table,
                 text.char_at(self.place),
             ))),
-            Instruction::Call(target) => self.call(target),
+            Instruction::Call(target) => self.call(*target),
             Instruction::Return => Ok(self.come_back()),
-            Instruction::Open(counts) => self.open(counts),
-            Instruction::Close(keep, node) => self.close_node(keep, grammar, text, node),
+            Instruction::Open(counts) => self.open(*counts),
+            Instruction::Close(keep, node) => self.close_node(*keep, grammar, text, *node),
             Instruction::Hold => self.hold(),
-            Instruction::Fold(keep, node) => self.fold_node(keep, grammar, node),
+            Instruction::Fold(keep, node) => self.fold_node(*keep, grammar, *node),
             Instruction::Link => self.link(),
-            Instruction::FoldLinks(keep, node) => self.fold_links(keep, grammar, node),
+            Instruction::FoldLinks(keep, node) => self.fold_links(*keep, grammar, *node),
             Instruction::Release => Ok(self.release()),
-            Instruction::Rows(rows) => self.begin_rows(grammar, context.operators, rows),
+            Instruction::Rows(rows) => self.begin_rows(grammar, context.operators, *rows),
             Instruction::ReadPrefix(_)
             | Instruction::ReadPostfix(_, _, _)
             | Instruction::ReadInfix(_, _, _)
             | Instruction::Settle(_, _, _) => Ok(Step::GivesUp),
-            Instruction::Mark(target) => self.mark(target),
-            Instruction::Commit(target) => Ok(self.commit(target)),
-            Instruction::Again(target) => Ok(self.again(target)),
+            Instruction::Mark(target) => self.mark(*target),
+            Instruction::Commit(target) => Ok(self.commit(*target)),
+            Instruction::Again(target) => Ok(self.again(*target)),
             Instruction::Fail => Ok(self.back(self.taken, self.nodes)),
             Instruction::Stop => Ok(self.stop(self.place == text.len())),
         }

@@ -2,7 +2,7 @@
 use Rattle.std.proofs.Common.{◌≡◌, ℕ, suc, ◌<◌, ◌≤◌, List, [], ◌∷◌, Bool, true, false, arith, length, take, drop, refl, ap}
 use Rattle.std.specs.Prelude.{Option, Some, None, slice_get, ◌||◌}
 use Rattle.pg_pred.specs.Offer.{Offer}
-use Rattle.pg_grammar_value.specs.Fits.{Fits, NodeFits, BuilderFits, BuildersFit}
+use Rattle.pg_grammar_value.specs.Fits.{Fits, NodeFits, BuildersFit}
 use Rattle.pg_grammar_value.specs.Grammar.{Grammar}
 use Rattle.pg_grammar_form.specs.Contents.{all_builders}
 use Rattle.pg_grammar_form.specs.declared.operators_item.OperatorsItem.{OperatorsItem}
@@ -40,9 +40,9 @@ module _ (offer : Offer) (g : Grammar) where
   frame_more n m l (on_parts rest b) r = tt
   frame_more n m l (on_choice k ps i q a b d) r = omega arith
   frame_more n m l (on_rounds p k c i slot a b d e) r = omega arith
-  frame_more n m l (on_first ch slot a) r = r
-  frame_more n m l (on_separator links) r = let h = r.0 in (omega arith, r.1)
-  frame_more n m l (on_operand links b a) r = let h = r.0 in (omega arith, r.1)
+  frame_more n m l (on_first ch slot a) r = tt
+  frame_more n m l (on_separator links) r = omega arith
+  frame_more n m l (on_operand links b a) r = omega arith
   frame_more n m l on_rule r = tt
   frame_more n m l (on_around around i a b) r = r
   frame_more n m l (on_expression e levels) r = r
@@ -107,11 +107,11 @@ module _ (offer : Offer) (g : Grammar) where
     rounds_ready p k c i slot a b d e (Failed false error) fs v t x T l r = r
     rounds_ready p k c i slot a b d e EmptyRound fs v t x T l r = r
 
-    first_ready : (ch : OnChain) (slot a : ℕ) (reply : Reply) (fs : List OnFrame) (v : RunTrees) (t : List TrailItem) (x : List TapeMessage) (T : Table) → 0 < n → BuilderFits offer ch.used → AreReady offer g n fs →
+    first_ready : (ch : OnChain) (slot a : ℕ) (reply : Reply) (fs : List OnFrame) (v : RunTrees) (t : List TrailItem) (x : List TapeMessage) (T : Table) → 0 < n → AreReady offer g n fs →
         IsTapeReady offer g n (tape_to_first ch slot a reply fs v t x T)
-    first_ready ch slot a (Succeeded c j error) fs v t x T l h r = ((l, h), r)
-    first_ready ch slot a (Failed c error) fs v t x T l h r = r
-    first_ready ch slot a EmptyRound fs v t x T l h r = r
+    first_ready ch slot a (Succeeded c j error) fs v t x T l r = (l, r)
+    first_ready ch slot a (Failed c error) fs v t x T l r = r
+    first_ready ch slot a EmptyRound fs v t x T l r = r
 
     ended_ready : (links : OnLinks) (c : Bool) (error : TapeError) (fs : List OnFrame) (v : RunTrees) (t : List TrailItem) (x : List TapeMessage) (T : Table) → AreReady offer g n fs → IsTapeReady offer g n (tape_ended links c error fs v t x T)
     ended_ready links true error fs v t x T r = r
@@ -123,17 +123,17 @@ module _ (offer : Offer) (g : Grammar) where
     separator_ready links (Failed c error) fs v t x T h r = ended_ready links c error fs v t x T r
     separator_ready links EmptyRound fs v t x T h r = r
 
-    linked_ready : (b : Bool) (links : OnLinks) (j a : ℕ) (kept : KeptError) (fs : List OnFrame) (v : RunTrees) (t : List TrailItem) (x : List TapeMessage) (T : Table) → suc links.count < n → BuilderFits offer links.chain.used → AreReady offer g n fs →
+    linked_ready : (b : Bool) (links : OnLinks) (j a : ℕ) (kept : KeptError) (fs : List OnFrame) (v : RunTrees) (t : List TrailItem) (x : List TapeMessage) (T : Table) → suc links.count < n → AreReady offer g n fs →
         IsTapeReady offer g n (tape_linked b links j a kept fs v t x T)
-    linked_ready true links j a kept fs v t x T l h r = ((l, h), r)
-    linked_ready false links j a kept fs v t x T l h r = tt
+    linked_ready true links j a kept fs v t x T l r = (l, r)
+    linked_ready false links j a kept fs v t x T l r = tt
 
-    operand_ready : (links : OnLinks) (b : before.Before) (a : ℕ) (reply : Reply) (fs : List OnFrame) (v : RunTrees) (t : List TrailItem) (x : List TapeMessage) (T : Table) → suc links.count < n → BuilderFits offer links.chain.used → AreReady offer g n fs →
+    operand_ready : (links : OnLinks) (b : before.Before) (a : ℕ) (reply : Reply) (fs : List OnFrame) (v : RunTrees) (t : List TrailItem) (x : List TapeMessage) (T : Table) → suc links.count < n → AreReady offer g n fs →
         IsTapeReady offer g n (tape_to_operand links b a reply fs v t x T)
-    operand_ready links b a (Succeeded d j error) fs v t x T l h r =
-        linked_ready (b.consumed || d) links j a (kept_at (length (messages_after d b.kept error x)) (tape_error_after d b.kept error x)) fs (link_forest links.chain.side links.chain.used.shape links.left v) t (messages_after d b.kept error x) T l h r
-    operand_ready links b a (Failed d error) fs v t x T l h r = ended_ready links (b.consumed || d) (tape_error_after d b.kept error x) fs v t (messages_after d b.kept error x) T r
-    operand_ready links b a EmptyRound fs v t x T l h r = r
+    operand_ready links b a (Succeeded d j error) fs v t x T l r =
+        linked_ready (b.consumed || d) links j a (kept_at (length (messages_after d b.kept error x)) (tape_error_after d b.kept error x)) fs (link_forest links.chain.side links.chain.used.shape links.left v) t (messages_after d b.kept error x) T l r
+    operand_ready links b a (Failed d error) fs v t x T l r = ended_ready links (b.consumed || d) (tape_error_after d b.kept error x) fs v t (messages_after d b.kept error x) T r
+    operand_ready links b a EmptyRound fs v t x T l r = r
 
     climbed_ready : (G : Given) (e : OnSetting) (z : OnClimbed) (fs : List OnFrame) (T : Table) → BuildersFit offer (all_builders e.parts.builders) × (g.operators ≡ Some e.parts.item) → AreReady offer g n fs →
         IsTapeReady offer g n (tape_climbed G e z fs T)
@@ -178,7 +178,7 @@ module _ (offer : Offer) (g : Grammar) where
     form_ready G (form.Seq (p ∷ ps)) i fs v t x T same l h r = (tt, r)
     form_ready G (form.Choice ps) i fs v t x T same l h r = alternative_ready 1 ps i no_tried fs v t x T l r
     form_ready G (form.Many p) i fs v t x T same l h r = (omega arith, r)
-    form_ready G (form.Chain side used p s) i fs v t x T same l h r = (h.1.0, r)
+    form_ready G (form.Chain side used p s) i fs v t x T same l h r = (tt, r)
     form_ready G (form.Rule k) i fs v t x T same l h r = rule_ready (slice_get G.grammar.rules k) i fs v t x T r
     form_ready G (form.Expression builders p) i fs v t x T same l h r = rows_ready G builders p i fs v t x T G.grammar.operators h.1 (ap (λ (g : Grammar). g.operators) same) r
     form_ready G (form.Around around p) i fs v t x T same l h r = (around_ready around p h, r)
@@ -193,9 +193,9 @@ module _ (offer : Offer) (g : Grammar) where
   hand_ready n G (on_parts rest b) reply fs v t x T z h r = parts_ready (suc n) rest b reply fs v t x T r
   hand_ready n G (on_choice k ps i q a b d) reply fs v t x T z h r = let l : suc k < suc n = omega arith in choice_ready (suc n) G.reading k ps i q a b d reply fs v t x T l r
   hand_ready n G (on_rounds p k c i slot a b d e) reply fs v t x T z h r = let l : suc k < suc n = omega arith in rounds_ready (suc n) p k c i slot a b d e reply fs v t x T l r
-  hand_ready n G (on_first ch slot a) reply fs v t x T z h r = let l : 0 < suc n = omega arith in first_ready (suc n) ch slot a reply fs v t x T l h r
-  hand_ready n G (on_separator links) reply fs v t x T z h r = let k = h.0 in let l : links.count < suc n = omega arith in separator_ready (suc n) links reply fs v t x T (l, h.1) r
-  hand_ready n G (on_operand links b a) reply fs v t x T z h r = let k = h.0 in let l : suc links.count < suc n = omega arith in operand_ready (suc n) links b a reply fs v t x T l h.1 r
+  hand_ready n G (on_first ch slot a) reply fs v t x T z h r = let l : 0 < suc n = omega arith in first_ready (suc n) ch slot a reply fs v t x T l r
+  hand_ready n G (on_separator links) reply fs v t x T z h r = let l : links.count < suc n = omega arith in separator_ready (suc n) links reply fs v t x T l r
+  hand_ready n G (on_operand links b a) reply fs v t x T z h r = let l : suc links.count < suc n = omega arith in operand_ready (suc n) links b a reply fs v t x T l r
   hand_ready n G on_rule reply fs v t x T z h r = r
   hand_ready n G (on_around around i a b) reply fs v t x T z h r = r
   hand_ready n G (on_expression e levels) reply fs v t x T z h r = expression_ready (suc n) G e levels reply fs v t x T h r

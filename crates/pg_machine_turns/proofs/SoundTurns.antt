@@ -9,7 +9,7 @@ use Rattle.pg_grammar_form.specs.declared.form.Leaf.{Leaf}
 use Rattle.pg_grammar_value.specs.declared.grammar.Rule as declared
 use Rattle.pg_grammar_form.specs.declared.side.Side.{Side}
 use Rattle.pg_grammar_form.specs.declared.operators_item.OperatorsItem.{OperatorsItem}
-use Rattle.pg_grammar_form.specs.declared.used.BuilderUse.{BuilderUse}
+use Rattle.pg_grammar_form.specs.declared.used.ChainBuilder.{ChainBuilder}
 use Rattle.pg_grammar_form.specs.declared.used.OperatorBuilders.{OperatorBuilders}
 use Rattle.pg_expand.specs.Rows.{rows_of}
 use Rattle.pg_grammar_value.specs.declared.trail.TrailItem.{TrailItem}
@@ -246,7 +246,7 @@ module _ {G : Given} where
   chain_on (entering {m = m} d (over {m = j} {n = l} (gives_first {k = k} {o = o} g) h)) =
       record { links = k; outcome = o; nodes = m + j; further = l; answers = first_operand d g; returns = h; count = omega arith }
 
-  chain_entered : (p q s : ℕ) (side : Side) (used : BuilderUse) (a : Spot) (fs : List Frame) (out : Outcome) (n : ℕ) → slice_get G.grammar.nodes p ≡ Some (form.Chain side used q s) →
+  chain_entered : (p q s : ℕ) (side : Side) (used : ChainBuilder) (a : Spot) (fs : List Frame) (out : Outcome) (n : ℕ) → slice_get G.grammar.nodes p ≡ Some (form.Chain side used q s) →
       Finishes G (at_node q a (in_first (record { side = side; shape = used.shape; operand = q; separator = s }) ∷ fs)) out n → Finishes G (at_node p a fs) out (suc n)
   chain_entered p q s side used a fs out n there h = let d = chain_on h in form_entered n there (answers.chain d.answers) refl d.returns d.count
 

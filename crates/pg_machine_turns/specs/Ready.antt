@@ -1,4 +1,4 @@
--- What a turn needs of the frames: room in their counts, offered builders, and in expressions the
+-- What a turn needs of the frames: room in their counts, offered builders around parts and in expressions, and in these the
 -- operators item of the grammar.
 use Rattle.std.specs.Prelude.{◌≡◌, ◌<◌, ℕ, Some, List, [], ◌∷◌}
 use Rattle.pg_pred.specs.Offer.{Offer}
@@ -19,9 +19,9 @@ abbrev pub IsReady : Offer → Grammar → ℕ → OnFrame → Type 0
 IsReady offer g most (on_parts rest before) = Unit {0}
 IsReady offer g most (on_choice k ps i tried n m o) = k < most
 IsReady offer g most (on_rounds p k c i slot n m o l) = k < most
-IsReady offer g most (on_first chain slot n) = BuilderFits offer chain.used
-IsReady offer g most (on_separator links) = (links.count < most) × BuilderFits offer links.chain.used
-IsReady offer g most (on_operand links before n) = (links.count < most) × BuilderFits offer links.chain.used
+IsReady offer g most (on_first chain slot n) = Unit {0}
+IsReady offer g most (on_separator links) = links.count < most
+IsReady offer g most (on_operand links before n) = links.count < most
 IsReady offer g most on_rule = Unit {0}
 IsReady offer g most (on_around around i n o) = AroundFits offer around
 IsReady offer g most (on_expression e levels) = BuildersFit offer (all_builders e.parts.builders) × (g.operators ≡ Some e.parts.item)

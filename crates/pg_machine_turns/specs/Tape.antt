@@ -13,7 +13,7 @@ use Rattle.pg_grammar_value.specs.declared.grammar.Rule as declared
 use Rattle.pg_grammar_value.specs.declared.trail.TrailItem.{TrailItem}
 use Rattle.pg_grammar_value.specs.declared.trail.TrailItem.TheVariants.{Alt, Rounds, Ops}
 use Rattle.pg_grammar_form.specs.declared.operators_item.OperatorsItem.{OperatorsItem}
-use Rattle.pg_grammar_form.specs.declared.used.BuilderUse.{BuilderUse}
+use Rattle.pg_grammar_form.specs.declared.used.ChainBuilder.{ChainBuilder}
 use Rattle.pg_grammar_form.specs.declared.used.OperatorBuilders.{OperatorBuilders}
 use Rattle.pg_table.specs.Rows.{rows}
 use Rattle.pg_language.specs.Derives.{leaf_of, span}
@@ -48,7 +48,7 @@ pub data OnTried : Type 0 where
 
 pub record OnChain : Type 0 where
   pub side : Side
-  pub used : BuilderUse
+  pub used : ChainBuilder
   pub operand : ℕ
   pub separator : ℕ
 

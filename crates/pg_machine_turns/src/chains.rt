@@ -4,8 +4,7 @@
 //! In a right chain a link waits for all later ones: the chain keeps the indices where its trees begin, and builds
 //! from the last one on when it ends.
 
-ghost use Rattle.std.specs.Prelude.{◌≡◌, ◌<◌, ◌+◌, ◌-◌, ◌^◌, true, length, take, reverse, IfOk, OnOk, Some};
-ghost use Rattle.pg_pred.specs.Offer.{offer_of, builder_shape};
+ghost use Rattle.std.specs.Prelude.{◌≡◌, ◌<◌, ◌+◌, ◌-◌, ◌^◌, true, length, take, reverse, IfOk, OnOk};
 ghost use Rattle.pg_machine_turns.specs.Tape.{tape_to_first, tape_to_separator, tape_to_operand, tape_ended, tape_linked, all_built, link_forest, link_waiting, link_left, end_tape_error, end_messages};
 ghost use Rattle.pg_machine_turns.specs.View.{chain_of, links_of, on_lists, tape_of};
 ghost use Rattle.pg_message_tape.specs.TapeErrors.{kept_at, merged_tape_error, merged_messages};
@@ -13,11 +12,10 @@ ghost use Rattle.pg_machine_turns.specs.declared.frame.Reply.TheVariants.{Succee
 
 use crate::frame::{Before, ChainFrame, Frame, LinksFrame, Marks, Mode, OperandFrame, Reply};
 use crate::machine::Machine;
-use pg_grammar_form::{BuilderUse, Side};
+use pg_grammar_form::{ChainBuilder, Side};
 use pg_grammar_value::TrailItem;
-use pg_machine_lists::{Lists, RunForest, build_after};
+use pg_machine_lists::{Lists, RunForest, build_chain};
 use pg_message_tape::{KeptError, TapeError};
-use pg_pred::Registry;
 use std::alloc::{AllocError, Global};
 
 impl<'a> Machine<'a> {
@@ -110,11 +108,9 @@ impl<'a> Machine<'a> {
     #[inline(always)]
     pub(crate) fn hand_to_separator(
         &mut self,
-        registry: &Registry,
         links: Box<LinksFrame<'a>>,
         reply: Reply,
     ) -> Result<Mode, AllocError>
-        requires { builder_shape (offer_of registry.now) links.value.chain.used.now.name ≡ Some links.value.chain.used.now.shape }
         ensures { IfOk result (λ mode. tape_of mode self.new ≡
             on_lists (tape_to_separator (links_of links.entry.value) reply) self.old) }
     {
@@ -135,9 +131,7 @@ impl<'a> Machine<'a> {
                 };
                 self.enter_part(Frame::Operand(frame), operand, end)
             }
-            Reply::Failed { consumed, error } => {
-                self.end_links(registry, links, consumed, error)
-            }
+            Reply::Failed { consumed, error } => { self.end_links(links, consumed, error) }
             Reply::EmptyRound => Ok(Mode::With(Reply::EmptyRound)),
         }
     }
@@ -147,12 +141,10 @@ impl<'a> Machine<'a> {
     #[inline(always)]
     pub(crate) fn hand_to_operand(
         &mut self,
-        registry: &Registry,
         operand: OperandFrame<'a>,
         reply: Reply,
     ) -> Result<Mode, AllocError>
-        requires room { operand.links.value.count < 2 ^ 64 - 1 }
-        requires offered { builder_shape (offer_of registry.now) operand.links.value.chain.used.now.name ≡ Some operand.links.value.chain.used.now.shape }
+        requires { operand.links.value.count < 2 ^ 64 - 1 }
         ensures { IfOk result (λ mode. tape_of mode self.new ≡
             on_lists (tape_to_operand (links_of operand.entry.links.value) operand.entry.before operand.entry.trees reply) self.old) }
     {
@@ -169,7 +161,7 @@ impl<'a> Machine<'a> {
             } => {
                 let error = self.lists.error_after(before.kept, consumed, error)?;
                 if before.consumed || consumed {
-                    self.add_link(registry, links, trees, end, error)
+                    self.add_link(links, trees, end, error)
                 } else {
                     Ok(Mode::Endless)
                 }
@@ -177,7 +169,7 @@ impl<'a> Machine<'a> {
             Reply::Failed { consumed, error } => {
                 let error = self.lists.error_after(before.kept, consumed, error)?;
                 let consumed = before.consumed || consumed;
-                self.end_links(registry, links, consumed, error)
+                self.end_links(links, consumed, error)
             }
             Reply::EmptyRound => Ok(Mode::With(Reply::EmptyRound)),
         }
@@ -187,21 +179,19 @@ impl<'a> Machine<'a> {
     #[inline(never)]
     fn add_link(
         &mut self,
-        registry: &Registry,
         mut links: Box<LinksFrame<'a>>,
         trees: usize,
         end: usize,
         error: TapeError,
     ) -> Result<Mode, AllocError>
-        requires room { links.value.count < 2 ^ 64 - 1 }
-        requires offered { builder_shape (offer_of registry.now) links.value.chain.used.now.name ≡ Some links.value.chain.used.now.shape }
+        requires { links.value.count < 2 ^ 64 - 1 }
         ensures { IfOk result (λ mode. tape_of mode self.new ≡
             tape_linked true (links_of links.entry.value) end trees (kept_at (length self.old.lists.messages) error)
             self.old.frames
             (link_forest links.entry.value.chain.side links.entry.value.chain.used.now.shape links.entry.value.left self.old.lists.forest)
             self.old.lists.trail.items self.old.lists.messages self.old.table) }
     {
-        fold(registry, &mut links, trees, &mut self.lists.forest)?;
+        fold(&mut links, trees, &mut self.lists.forest)?;
         let kept = self.lists.messages.kept(error);
         count_link(&mut links, kept, end, self.marks()?);
         let separator = links.chain.separator;
@@ -212,16 +202,14 @@ impl<'a> Machine<'a> {
     #[inline(never)]
     fn end_links(
         &mut self,
-        registry: &Registry,
         mut links: Box<LinksFrame<'a>>,
         consumed: bool,
         error: TapeError,
     ) -> Result<Mode, AllocError>
-        requires { builder_shape (offer_of registry.now) links.value.chain.used.now.name ≡ Some links.value.chain.used.now.shape }
         ensures { IfOk result (λ mode. tape_of mode self.new ≡
             on_lists (tape_ended (links_of links.entry.value) consumed error) self.old) }
     {
-        let mode = self.end_chain(registry, &mut links, consumed, error)?;
+        let mode = self.end_chain(&mut links, consumed, error)?;
         self.spare_links = Some(links);
         Ok(mode)
     }
@@ -229,12 +217,10 @@ impl<'a> Machine<'a> {
     /// Ends the chain after a link that failed: it fails if the link consumed, and otherwise ends before the link.
     fn end_chain(
         &mut self,
-        registry: &Registry,
         links: &mut LinksFrame<'a>,
         consumed: bool,
         error: TapeError,
     ) -> Result<Mode, AllocError>
-        requires { builder_shape (offer_of registry.now) links.old.chain.used.now.name ≡ Some links.old.chain.used.now.shape }
         ensures { IfOk result (λ mode. tape_of mode self.new ≡
             on_lists (tape_ended (links_of links.old) consumed error) self.old) }
     {
@@ -244,7 +230,7 @@ impl<'a> Machine<'a> {
         let error = end_error(&mut self.lists, links, error)?;
         self.cut(links.marks);
         let used = links.chain.used;
-        build_waiting(registry, used, &mut links.waiting, &mut self.lists.forest)?;
+        build_waiting(used, &mut links.waiting, &mut self.lists.forest)?;
         self.lists
             .note(links.chain.slot, TrailItem::Rounds(links.count));
         Ok(Mode::With(Reply::Succeeded {
@@ -292,13 +278,7 @@ fn boxed<'a>(
 }
 
 /// Folds the trees of one more link in a left chain; in a right chain the left operand waits.
-fn fold(
-    registry: &Registry,
-    links: &mut LinksFrame<'_>,
-    trees: usize,
-    forest: &mut RunForest,
-) -> Result<(), AllocError>
-    requires { builder_shape (offer_of registry.now) links.old.chain.used.now.name ≡ Some links.old.chain.used.now.shape }
+fn fold(links: &mut LinksFrame<'_>, trees: usize, forest: &mut RunForest) -> Result<(), AllocError>
     ensures links { OnOk result (links_of links.new ≡ record (links_of links.old) {
       waiting = link_waiting links.old.chain.side links.old.left (reverse links.old.waiting.items);
       left = link_left links.old.chain.side links.old.left trees;
@@ -306,7 +286,7 @@ fn fold(
     ensures forest { OnOk result (forest.new ≡ link_forest links.old.chain.side links.old.chain.used.now.shape links.old.left forest.old) }
 {
     match links.chain.side {
-        Side::Left => build_after(registry, links.chain.used, "", links.left, forest),
+        Side::Left => build_chain(links.chain.used, links.left, forest),
         Side::Right => {
             let left = links.left;
             links.waiting.push(left)?;
@@ -338,16 +318,14 @@ fn count_link(links: &mut LinksFrame<'_>, kept: KeptError, end: usize, marks: Ma
 
 /// Builds the trees after each of these indices into one, from the last index on.
 fn build_waiting(
-    registry: &Registry,
-    used: &BuilderUse,
+    used: &ChainBuilder,
     places: &mut Vec<usize>,
     forest: &mut RunForest,
 ) -> Result<(), AllocError>
-    requires { builder_shape (offer_of registry.now) used.now.name ≡ Some used.now.shape }
     ensures { OnOk result (forest.new ≡ all_built used.now.shape (reverse places.old.items) forest.old) }
 {
     while let Some(place) = places.pop() {
-        build_after(registry, used, "", place, forest)?;
+        build_chain(used, place, forest)?;
     }
     Ok(())
 }

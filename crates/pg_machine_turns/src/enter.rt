@@ -13,7 +13,7 @@ ghost use Rattle.pg_machine_turns.specs.View.{frame_of, on_lists, tape_of};
 use crate::around::begin;
 use crate::frame::{AroundFrame, ChainFrame, Frame, Mode, PartsFrame, Reply, RoundsFrame, Tried};
 use crate::machine::Machine;
-use pg_grammar_form::{Around, BuilderUse, Form, Leaf, Node, NodeId, RuleId, Side, WordId};
+use pg_grammar_form::{Around, ChainBuilder, Form, Leaf, Node, NodeId, RuleId, Side, WordId};
 use pg_grammar_value::{Grammar, TrailItem};
 use pg_machine_lists::Context;
 use pg_text::Text;
@@ -191,7 +191,7 @@ impl<'a> Machine<'a> {
     fn enter_chain(
         &mut self,
         side: Side,
-        used: &'a BuilderUse,
+        used: &'a ChainBuilder,
         operand: NodeId,
         separator: NodeId,
         place: usize,

@@ -4,7 +4,7 @@
 //! those of the frames below. The operators in force are those of its table, the newest last. So a frame keeps only how
 //! long the lists were, and how many operators there were, if it may cut them back.
 
-use pg_grammar_form::{Around, BuilderUse, NodeId, Side};
+use pg_grammar_form::{Around, ChainBuilder, NodeId, Side};
 use pg_grammar_value::TrailItem;
 use pg_machine_lists::ExpressionFrame;
 use pg_message_tape::{KeptError, TapeError};
@@ -126,7 +126,7 @@ pub struct RoundsFrame {
 #[derive(Clone, Copy)]
 pub struct ChainFrame<'a> {
     pub side: Side,
-    pub used: &'a BuilderUse,
+    pub used: &'a ChainBuilder,
     pub operand: NodeId,
     pub separator: NodeId,
     /// The index of the chain's item in the trail.

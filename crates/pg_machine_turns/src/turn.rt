@@ -106,11 +106,11 @@ impl<'a> Machine<'a> {
                 None => Ok(Mode::With(reply)),
             },
             FrameKind::Separator => match frames.lists.take_separator() {
-                Some(links) => self.hand_to_separator(registry, links, reply),
+                Some(links) => self.hand_to_separator(links, reply),
                 None => Ok(Mode::With(reply)),
             },
             FrameKind::Operand => match frames.lists.take_operand() {
-                Some(operand) => self.hand_to_operand(registry, operand, reply),
+                Some(operand) => self.hand_to_operand(operand, reply),
                 None => Ok(Mode::With(reply)),
             },
             FrameKind::Rule => Ok(Mode::With(reply)),

@@ -10,6 +10,7 @@ pub(crate) fn page_of(code: &str) -> Option<&'static str> {
         [b'C' | b'c', number @ ..] => page_of_c(number),
         [b'F' | b'f', number @ ..] => page_of_f(number),
         [b'P' | b'p', number @ ..] => page_of_p(number),
+        [b'T' | b't', number @ ..] => page_of_t(number),
         [b'V' | b'v', number @ ..] => page_of_v(number),
         [b'W' | b'w', number @ ..] => page_of_w(number),
         [b'X' | b'x', number @ ..] => page_of_x(number),
@@ -69,6 +70,21 @@ fn page_of_p(number: &[u8]) -> Option<&'static str> {
         b"4" => Some(text_of_p4()),
         b"5" => Some(text_of_p5()),
         b"6" => Some(text_of_p6()),
+        _ => None,
+    }
+}
+
+fn page_of_t(number: &[u8]) -> Option<&'static str> {
+    match number {
+        b"1" => Some(text_of_t1()),
+        b"2" => Some(text_of_t2()),
+        b"3" => Some(text_of_t3()),
+        b"4" => Some(text_of_t4()),
+        b"5" => Some(text_of_t5()),
+        b"6" => Some(text_of_t6()),
+        b"7" => Some(text_of_t7()),
+        b"8" => Some(text_of_t8()),
+        b"9" => Some(text_of_t9()),
         _ => None,
     }
 }
@@ -1438,9 +1454,9 @@ pgw check answers:
 At a literal
     Mostly means: a literal is written where a value must be
     Write: `string("x")`
-At the literal of a chain
-    Mostly means: a chain's builder has no symbol
-    Write: `chainl1(node, v, s)`
+At the literal of `build` or a chain
+    Mostly means: the builder comes first
+    Write: `build(node, "x", v)`
 At `|`
     Mostly means: alternatives of values are a choice; `|` is for classes
     Write: `choice(v, w)`
@@ -1472,7 +1488,7 @@ Others:
     start a; a = string("x") | string("y"); gives g:1:26: F3 unexpected token
     start a; a = seq(string("x") string("y")); gives g:1:30: F3 unexpected token
     start a; a = seq(string("x"); gives g:1:29: F3 unexpected token
-    start a; a = chainl1(node, "sum", eof, eof); gives g:1:28: F3 unexpected token
+    start a; a = chainl1("sum", eof, eof); gives g:1:22: F3 unexpected token
     start a; a = eof(); gives g:1:17: F3 unexpected token
     start a; a = char("x"); gives g:1:18: F3 unexpected token
     start a; a = sepEndBy(a, a); gives g:1:22: F3 unexpected token
@@ -1529,9 +1545,9 @@ pgw check answers:
 At a class that is there
     Mostly means: it is defined below its use
     Write: the class above
-At what follows `build(`
+At what follows `build(` or `chainl1(`
     Mostly means: a label is written as a builder
-    Write: `build(node, "pair", v)`
+    Write: `build(node, "pair", v)`, `chainl1(node, "or", v, s)`
 At `expr`
     Mostly means: there is no `operators` item
 
@@ -1539,6 +1555,7 @@ Others:
 
     start a; a = satisfy(vowel); class vowel = "aeiou"; gives g:1:22: F4 unknown name
     start a; a = build(pair, eof); gives g:1:20: F4 unknown name
+    start a; a = chainl1(or, eof, eof); gives g:1:22: F4 unknown name
     start a; a = expr(node, node, node, eof); gives g:1:14: F4 unknown name
 "#
 }
@@ -1671,6 +1688,76 @@ Status 1.
 pgw probe answers to the text x:
 
     P6 empty repetition
+"#
+}
+
+fn text_of_t1() -> &'static str {
+    r#"T1 not UTF-8
+
+The place is that of the first byte that belongs to no character.
+"#
+}
+
+fn text_of_t2() -> &'static str {
+    r#"T2 corpus too long
+
+It has more than 16,777,216 bytes. Put the cases into several files: `pgw test`
+takes as many as you like.
+"#
+}
+
+fn text_of_t3() -> &'static str {
+    r#"T3 text before the first case
+
+Before the first case stand only blank lines and comments. Perhaps the line
+that begins the case has fewer than three `=`, or no blank behind them.
+"#
+}
+
+fn text_of_t4() -> &'static str {
+    r#"T4 text behind what is wanted
+
+What is wanted ends at the first blank line or comment, and this line comes
+behind. Perhaps the next case begins with fewer than three `=`, or a comment
+stands in the midst of what is wanted.
+"#
+}
+
+fn text_of_t5() -> &'static str {
+    r#"T5 case without a name
+
+Put a name behind the `=`. Each case has one of its own.
+"#
+}
+
+fn text_of_t6() -> &'static str {
+    r#"T6 bad brackets
+
+A bracket at the end of a name isn't closed, or names no rule. A name that is
+to end so can have something behind the bracket.
+"#
+}
+
+fn text_of_t7() -> &'static str {
+    r#"T7 name twice
+
+An earlier case has this name.
+"#
+}
+
+fn text_of_t8() -> &'static str {
+    r#"T8 text without an end
+
+No line of as many `-` as the case has `=`, and of nothing else, comes behind
+it.
+"#
+}
+
+fn text_of_t9() -> &'static str {
+    r#"T9 nothing wanted
+
+Behind the text comes the next case, or the end of the file. Write what is to
+come of the text: `accepted` if that doesn't matter, or `error`.
 "#
 }
 

@@ -7,7 +7,7 @@ use Rattle.pg_grammar_form.specs.declared.form.Form.TheVariants as form
 use Rattle.pg_grammar_form.specs.declared.form.Around.{Around}
 use Rattle.pg_grammar_form.specs.declared.side.Side.{Side}
 use Rattle.pg_grammar_value.specs.declared.grammar.Rule as declared
-use Rattle.pg_grammar_form.specs.declared.used.BuilderUse.{BuilderUse}
+use Rattle.pg_grammar_form.specs.declared.used.ChainBuilder.{ChainBuilder}
 use Rattle.pg_grammar_form.specs.declared.used.OperatorBuilders.{OperatorBuilders}
 use Rattle.pg_start.specs.declared.kind.StartKind.{StartKind}
 use Rattle.pg_start.specs.declared.kind.StartKind.TheVariants.{End}
@@ -22,7 +22,7 @@ pub data StandsBefore (part : ℕ) (rest : List ℕ) : List ℕ → Type 0 where
 
 -- what stands at a node is a chain of this operand and this separator
 pub data IsChain (operand separator : ℕ) : Node → Type 0 where
-  chain : {side : Side} {used : BuilderUse} → IsChain operand separator (form.Chain side used operand separator)
+  chain : {side : Side} {used : ChainBuilder} → IsChain operand separator (form.Chain side used operand separator)
 
 -- what stands at a node reads what its one part reads
 pub data HasOnly (part : ℕ) : Node → Type 0 where

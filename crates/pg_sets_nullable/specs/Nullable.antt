@@ -8,7 +8,7 @@ use Rattle.pg_grammar_form.specs.declared.form.Leaf.TheVariants as leaf
 use Rattle.pg_grammar_form.specs.declared.form.Around.{Around}
 use Rattle.pg_grammar_form.specs.declared.side.Side.{Side}
 use Rattle.pg_grammar_value.specs.declared.grammar.Rule as declared
-use Rattle.pg_grammar_form.specs.declared.used.BuilderUse.{BuilderUse}
+use Rattle.pg_grammar_form.specs.declared.used.ChainBuilder.{ChainBuilder}
 use Rattle.pg_grammar_form.specs.declared.used.OperatorBuilders.{OperatorBuilders}
 
 mutual
@@ -26,7 +26,7 @@ mutual
     -- an alternative is nullable
     choice : {parts : List ℕ} (k : ℕ) {part : ℕ} → slice_get parts k ≡ Some part → Nullable g part → NullableForm g (form.Choice parts)
     -- the operand is nullable
-    chain : {side : Side} {used : BuilderUse} {operand separator : ℕ} → Nullable g operand → NullableForm g (form.Chain side used operand separator)
+    chain : {side : Side} {used : ChainBuilder} {operand separator : ℕ} → Nullable g operand → NullableForm g (form.Chain side used operand separator)
     -- the part is nullable
     around : {around : Around} {part : ℕ} → Nullable g part → NullableForm g (form.Around around part)
     expression : {builders : OperatorBuilders} {term : ℕ} → Nullable g term → NullableForm g (form.Expression builders term)

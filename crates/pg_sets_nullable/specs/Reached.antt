@@ -6,7 +6,7 @@ use Rattle.pg_grammar_form.specs.declared.form.Form.TheVariants as form
 use Rattle.pg_grammar_form.specs.declared.form.Around.{Around}
 use Rattle.pg_grammar_form.specs.declared.side.Side.{Side}
 use Rattle.pg_grammar_value.specs.declared.grammar.Rule as declared
-use Rattle.pg_grammar_form.specs.declared.used.BuilderUse.{BuilderUse}
+use Rattle.pg_grammar_form.specs.declared.used.ChainBuilder.{ChainBuilder}
 use Rattle.pg_grammar_form.specs.declared.used.OperatorBuilders.{OperatorBuilders}
 use Rattle.std.specs.List.Sorted.{IsStrictlyIncreasing}
 use Rattle.pg_graph.specs.Graphs.{has, numbers_at}
@@ -24,7 +24,7 @@ pub data ReachedPart (g : Grammar) : Node → ℕ → Type 0 where
   -- every alternative
   choice : {parts : List ℕ} (k : ℕ) {part : ℕ} → slice_get parts k ≡ Some part → ReachedPart g (form.Choice parts) part
   -- operand, separator and operand, as in a sequence
-  chain : {side : Side} {used : BuilderUse} {operand separator part : ℕ} → ReachedIn g (operand ∷ separator ∷ operand ∷ []) part →
+  chain : {side : Side} {used : ChainBuilder} {operand separator part : ℕ} → ReachedIn g (operand ∷ separator ∷ operand ∷ []) part →
       ReachedPart g (form.Chain side used operand separator) part
   -- the one part
   many : {part : ℕ} → ReachedPart g (form.Many part) part

@@ -13,6 +13,7 @@ mod piece;
 mod placed;
 mod positions;
 mod reading;
+mod single_characters;
 mod stretch;
 mod stretches;
 mod walk;

@@ -2,9 +2,10 @@
 
 use crate::declared::parts_of_declaration;
 use crate::derived::DerivedText;
+use crate::single_characters::single_characters;
 use crate::stretch::Stretch;
 use crate::stretches::{Name, Stretches};
-use pg_grammar_form::{Around, BuilderUse, Form, NodeId, OperatorBuilders};
+use pg_grammar_form::{Around, BuilderUse, ChainBuilder, Form, NodeId, OperatorBuilders};
 use pg_grammar_value::{AppliedOperator, Fixity, Grammar};
 use pg_text::Text;
 use pg_trail_replay::{Closing, Looseness, Replayer, RoundsTask, ShortTask, Task};
@@ -67,7 +68,8 @@ impl<'a> Walk<'a> {
         Ok(())
     }
 
-    /// Performs the next task, and says whether there was one. Where nothing of the trees reaches the result, as in `text`, none is recorded.
+    /// Performs the next task, and says whether there was one. Where nothing of the trees reaches the result, as in `text`, none is recorded, and rounds of
+    /// one character each are passed at once.
     fn go_on(
         &mut self,
         alloc: Global,
@@ -80,6 +82,10 @@ impl<'a> Walk<'a> {
             return Ok(false);
         };
         let is_dropped = is_dropped(&task, replayer.loose);
+        if is_dropped && let Some(count) = single_characters(grammar, &task) {
+            pass(replayer, count);
+            return Ok(true);
+        }
         if replayer.perform(alloc, grammar, text, &task)?.is_some() {
             return Ok(false);
         }
@@ -217,7 +223,7 @@ impl<'a> Walk<'a> {
     }
 
     /// Ends the last operand of a chain, and joins it with the operand before it into one tree.
-    fn fold(&mut self, used: &'a BuilderUse, done: Done) -> Result<(), AllocError> {
+    fn fold(&mut self, used: &'a ChainBuilder, done: Done) -> Result<(), AllocError> {
         self.end();
         let whole = between(self.begun(), done.to)?;
         self.made.build(
@@ -265,6 +271,14 @@ impl<'a> Walk<'a> {
             }
             Around::Try | Around::Skip | Around::Label(_) | Around::Local => Ok(()),
         }
+    }
+}
+
+/// Goes on behind so many characters, of which nothing is made.
+fn pass(replayer: &mut Replayer<'_>, count: usize) {
+    if count > 0 {
+        replayer.place = replayer.place.saturating_add(count);
+        replayer.entered.clear();
     }
 }
 

@@ -14,7 +14,7 @@ use Rattle.pg_grammar_form.specs.declared.form.Leaf.TheVariants as read
 use Rattle.pg_grammar_form.specs.declared.form.Around.{Around}
 use Rattle.pg_grammar_form.specs.declared.side.Side.{Side}
 use Rattle.pg_grammar_form.specs.declared.side.Side.TheVariants.{Left, Right}
-use Rattle.pg_grammar_form.specs.declared.used.BuilderUse.{BuilderUse}
+use Rattle.pg_grammar_form.specs.declared.used.ChainBuilder.{ChainBuilder}
 use Rattle.pg_grammar_form.specs.declared.used.OperatorBuilders.{OperatorBuilders}
 use Rattle.pg_grammar_form.specs.declared.operators_item.OperatorsItem.{OperatorsItem}
 use Rattle.pg_grammar_form.proofs.Each.{all-weaker}
@@ -186,7 +186,7 @@ module _ (g : Grammar) (text : List ℕ) (preorder : InPreorder 0 g.nodes) (i : 
   more_pass es p n place trees count pass ts k u v ms kn bl = next_ends (state_at i items (more_rounds p n place trees count ∷ ts) u v es ms kn bl)
       (ends_if (is_unchanged place trees count (state_at i items ts u v es ms kn bl)) _ _ (λ h. k u v ms kn bl) (λ h. rounds_end n es p n (omega arith) pass ts k u v ms kn bl))
 
-  fold_pass : (es : List ℕ) (used : BuilderUse) (trees : ℕ) → Passes es (fold used trees)
+  fold_pass : (es : List ℕ) (used : ChainBuilder) (trees : ℕ) → Passes es (fold used trees)
   fold_pass es used trees ts k u v ms kn bl = next_ends (state_at i items (fold used trees ∷ ts) u v es ms kn bl) (k u (folded_after used.shape trees v) ms kn bl)
 
   -- what comes after an operand

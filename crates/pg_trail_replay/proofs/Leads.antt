@@ -6,7 +6,7 @@ use Rattle.pg_grammar_value.specs.Grammar.{Grammar}
 use Rattle.pg_grammar_value.specs.declared.trail.TrailItem.{TrailItem}
 use Rattle.pg_grammar_form.specs.declared.form.Around.{Around}
 use Rattle.std.specs.Prelude.{Some}
-use Rattle.pg_grammar_form.specs.declared.used.BuilderUse.{BuilderUse}
+use Rattle.pg_grammar_form.specs.declared.used.ChainBuilder.{ChainBuilder}
 use Rattle.pg_grammar_form.specs.declared.used.OperatorBuilders.{OperatorBuilders}
 use Rattle.pg_grammar_form.specs.declared.operators_item.OperatorsItem.{OperatorsItem}
 use Rattle.pg_grammar_value.specs.declared.trail.AppliedOperator.{AppliedOperator}
@@ -40,7 +40,7 @@ pub data Does (g : Grammar) (text : List ℕ) : Setting → Setting → OnTask �
   does_linked : {ms : Setting} {c : Chain} {n trees later : ℕ} {from : RoundStart} {a b : Spot} {v : List Tree} {js ls : List Link} {u : List TrailItem} →
       DerivesLinks g text c.part c.separator n a b ls u → AreAlike c.used.shape ms.loose js ls → Does g text ms ms (linked c n trees later from) a v b (chained_from c.side c.used.shape trees later v js) u
   does_settle : {ms : Setting} {loose : Looseness} {a : Spot} {v : List Tree} → Does g text ms (loosened loose ms) (settle loose) a v a v []
-  does_fold : {ms : Setting} {used : BuilderUse} {trees : ℕ} {a : Spot} {v : List Tree} → Does g text ms ms (fold used trees) a v a (folded_after used.shape trees v) []
+  does_fold : {ms : Setting} {used : ChainBuilder} {trees : ℕ} {a : Spot} {v : List Tree} → Does g text ms ms (fold used trees) a v a (folded_after used.shape trees v) []
   does_close : {ms : Setting} {k : Around} {p from trees operators count : ℕ} {loose : Looseness} {a : Spot} {v : List Tree} →
       Does g text ms (loosened loose ms) (close k p from trees operators count loose) a v (record { place = a.place; table = closed_table k operators a.table }) (closed_forest k loose text from a.place trees v) []
   does_leave : {ms : Setting} {r place trees count : ℕ} {a : Spot} {v : List Tree} → Does g text ms ms (leave r place trees count) a v a v []

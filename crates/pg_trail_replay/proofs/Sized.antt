@@ -9,7 +9,7 @@ use Rattle.pg_grammar_form.specs.declared.form.Leaf.{Leaf}
 use Rattle.pg_grammar_form.specs.declared.form.Around.{Around}
 use Rattle.pg_grammar_form.specs.declared.side.Side.{Side}
 use Rattle.pg_grammar_form.specs.declared.operators_item.OperatorsItem.{OperatorsItem}
-use Rattle.pg_grammar_form.specs.declared.used.BuilderUse.{BuilderUse}
+use Rattle.pg_grammar_form.specs.declared.used.ChainBuilder.{ChainBuilder}
 use Rattle.pg_grammar_form.specs.declared.used.OperatorBuilders.{OperatorBuilders}
 use Rattle.pg_grammar_value.specs.Grammar.{Grammar}
 use Rattle.pg_grammar_value.specs.declared.grammar.Rule as declared
@@ -32,7 +32,7 @@ mutual
     choice : {m : ℕ} {parts : List ℕ} {k p : ℕ} {a b : Spot} {forest : List Tree} {trail : List TrailItem} → slice_get parts k ≡ Some p → Sized g text m p a b forest trail →
         SizedForm g text m (form.Choice parts) a b forest (Alt (suc k) ∷ trail)
     many : {m p n : ℕ} {a b : Spot} {forest : List Tree} {trail : List TrailItem} → SizedRounds g text m p n a b forest trail → SizedForm g text m (form.Many p) a b forest (Rounds n ∷ trail)
-    chain : {m l : ℕ} {side : Side} {used : BuilderUse} {p s n : ℕ} {a b c : Spot} {first : List Tree} {links : List Link} {trail items : List TrailItem} →
+    chain : {m l : ℕ} {side : Side} {used : ChainBuilder} {p s n : ℕ} {a b c : Spot} {first : List Tree} {links : List Link} {trail items : List TrailItem} →
         Sized g text m p a b first trail → SizedLinks g text l p s n b c links items →
         SizedForm g text (m + l) (form.Chain side used p s) a c (folded side used.shape first links) (Rounds n ∷ (trail ++ items))
     rule : {m r : ℕ} {named : declared.Rule} {a b : Spot} {forest : List Tree} {trail : List TrailItem} → slice_get g.rules r ≡ Some named → Sized g text m named.body a b forest trail →

@@ -5,7 +5,7 @@ use Rattle.pg_tree.specs.Trees.{Tree}
 use Rattle.pg_grammar_value.specs.Grammar.{Grammar}
 use Rattle.pg_grammar_form.specs.Operators.{Operator}
 use Rattle.pg_grammar_form.specs.declared.class.ClassPart.{ClassPart}
-use Rattle.pg_grammar_form.specs.declared.used.BuilderUse.{BuilderUse}
+use Rattle.pg_grammar_form.specs.declared.used.ChainBuilder.{ChainBuilder}
 use Rattle.pg_grammar_form.specs.declared.used.OperatorBuilders.{OperatorBuilders}
 use Rattle.pg_grammar_form.specs.Forms.{Node}
 use Rattle.pg_grammar_form.specs.declared.form.Form.TheVariants as form
@@ -128,11 +128,11 @@ mutual
     many : {entered : List ℕ} {p n : ℕ} {a : Spot} {items : List TrailItem} {s : Stop} → RefusesRounds g text [] p n a items s →
         RefusesForm g text entered (form.Many p) a (Rounds n ∷ items) s
     -- no rounds are counted, or the first operand or a link of a chain stops
-    no_links : {entered : List ℕ} {side : Side} {used : BuilderUse} {p q : ℕ} {a : Spot} {items : List TrailItem} → CountsNone items →
+    no_links : {entered : List ℕ} {side : Side} {used : ChainBuilder} {p q : ℕ} {a : Spot} {items : List TrailItem} → CountsNone items →
         RefusesForm g text entered (form.Chain side used p q) a items (stop ItemDiffers a items)
-    operand : {entered : List ℕ} {side : Side} {used : BuilderUse} {p q n : ℕ} {a : Spot} {items : List TrailItem} {s : Stop} → Refuses g text [] p a items s →
+    operand : {entered : List ℕ} {side : Side} {used : ChainBuilder} {p q n : ℕ} {a : Spot} {items : List TrailItem} {s : Stop} → Refuses g text [] p a items s →
         RefusesForm g text entered (form.Chain side used p q) a (Rounds n ∷ items) s
-    links : {entered : List ℕ} {side : Side} {used : BuilderUse} {p q n : ℕ} {a b : Spot} {forest : List Tree} {trail items : List TrailItem} {s : Stop} →
+    links : {entered : List ℕ} {side : Side} {used : ChainBuilder} {p q n : ℕ} {a b : Spot} {forest : List Tree} {trail items : List TrailItem} {s : Stop} →
         Derives g text p a b forest trail → RefusesLinks g text [] p q n b items s →
         RefusesForm g text entered (form.Chain side used p q) a (Rounds n ∷ (trail ++ items)) s
     -- the rule is entered again before anything was consumed, or doesn't exist, which can't happen in a well-formed grammar, or its body stops

@@ -3,7 +3,7 @@ use Rattle.std.specs.Prelude.{◌==◌, if◌then◌else◌, ℕ, List, [], ◌�
 use Rattle.pg_tree.specs.Trees.{Tree}
 use Rattle.pg_grammar_form.specs.declared.form.Around.{Around}
 use Rattle.pg_grammar_form.specs.declared.side.Side.{Side}
-use Rattle.pg_grammar_form.specs.declared.used.BuilderUse.{BuilderUse}
+use Rattle.pg_grammar_form.specs.declared.used.ChainBuilder.{ChainBuilder}
 use Rattle.pg_grammar_form.specs.declared.used.OperatorBuilders.{OperatorBuilders}
 use Rattle.pg_grammar_value.specs.declared.trail.AppliedOperator.{AppliedOperator}
 use Rattle.pg_grammar_value.specs.declared.trail.TrailItem.{TrailItem}
@@ -31,7 +31,7 @@ pub record Known : Type 0 where
 -- a chain: the side from which it is folded, the builder, the operand and the separator
 pub record Chain : Type 0 where
   pub side : Side
-  pub used : BuilderUse
+  pub used : ChainBuilder
   pub part : ℕ
   pub separator : ℕ
 
@@ -59,7 +59,7 @@ pub data OnTask : Type 0 where
   -- sets the looseness from here on
   settle : Looseness → OnTask
   -- builds the trees after the first `trees` into one
-  fold : BuilderUse → (trees : ℕ) → OnTask
+  fold : ChainBuilder → (trees : ℕ) → OnTask
   -- a term of an expression with this looseness, whose trees begin the next operand
   marked : ℕ → Looseness → OnTask
   -- the symbol of an operator

@@ -17,7 +17,7 @@ use Rattle.pg_grammar_form.specs.declared.form.Around.{Around}
 use Rattle.pg_grammar_form.specs.declared.form.Around.TheVariants as kind
 use Rattle.pg_grammar_form.specs.declared.side.Side.{Side}
 use Rattle.pg_grammar_form.specs.declared.side.Side.TheVariants.{Left, Right}
-use Rattle.pg_grammar_form.specs.declared.used.BuilderUse.{BuilderUse}
+use Rattle.pg_grammar_form.specs.declared.used.ChainBuilder.{ChainBuilder}
 use Rattle.pg_grammar_form.specs.declared.used.OperatorBuilders.{OperatorBuilders}
 use Rattle.pg_grammar_value.specs.declared.trail.AppliedOperator.{AppliedOperator}
 use Rattle.pg_grammar_value.specs.declared.trail.Fixity.{Fixity}
@@ -322,7 +322,7 @@ linked_turn c n trees later from s = if is_idle c.used.shape from s then on (wit
 abbrev pub folded_after : Shape → ℕ → List Tree → List Tree
 folded_after shape trees forest = take trees forest ++ built shape [] (drop trees forest) ∷ []
 
-abbrev pub fold_turn : BuilderUse → ℕ → State → Turn
+abbrev pub fold_turn : ChainBuilder → ℕ → State → Turn
 fold_turn used trees s = on (with_forest (folded_after used.shape trees s.forest) s.table s)
 
 -- the table after a form around a part, with the number of operators before it

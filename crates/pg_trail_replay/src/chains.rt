@@ -9,7 +9,7 @@ use crate::replay_fault::Mismatch;
 use crate::replayer::Replayer;
 use crate::step::build;
 use crate::task::{Chain, Halt, Looseness, RoundStart, RoundsTask, ShortTask, Task};
-use pg_grammar_form::{BuilderUse, Side};
+use pg_grammar_form::{ChainBuilder, Side};
 use pg_grammar_value::TrailItem;
 use pg_tree::Shape;
 use std::alloc::AllocError;
@@ -160,7 +160,7 @@ impl<'a> Replayer<'a> {
     /// Builds the trees after the first `trees` into one.
     pub(crate) fn fold(
         &mut self,
-        used: &BuilderUse,
+        used: &ChainBuilder,
         trees: usize,
     ) -> Result<Option<Halt>, AllocError>
         ensures { IfOk result (λ halt. told halt (state_of self.new) ≡ fold_turn used.now trees (state_of self.old)) }

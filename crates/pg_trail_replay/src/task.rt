@@ -4,7 +4,7 @@ ghost use Rattle.std.specs.Prelude.{◌≡◌, IfOk};
 ghost use Rattle.pg_trail_replay.specs.View.{chain_of};
 
 use crate::replay_fault::Mismatch;
-use pg_grammar_form::{Around, BuilderUse, NodeId, OperatorBuilders, RuleId, Side};
+use pg_grammar_form::{Around, ChainBuilder, NodeId, OperatorBuilders, RuleId, Side};
 use pg_grammar_value::AppliedOperator;
 use pg_tree::Label;
 use std::alloc::AllocError;
@@ -26,7 +26,7 @@ pub enum Looseness<'a> {
 #[derive(Clone, Copy)]
 pub struct Chain<'a> {
     pub side: Side,
-    pub used: &'a BuilderUse,
+    pub used: &'a ChainBuilder,
     pub part: NodeId,
     pub separator: NodeId,
 }
@@ -112,7 +112,7 @@ pub enum ShortTask<'a> {
     Settle(Looseness<'a>),
     /// Builds the trees after the first `trees` into one.
     Fold {
-        used: &'a BuilderUse,
+        used: &'a ChainBuilder,
         trees: usize,
     },
     /// A term of an expression with this looseness, whose trees begin the next operand.

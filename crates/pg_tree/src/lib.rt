@@ -26,7 +26,7 @@ pub use entries::{Entries, Seen};
 pub use forest::Forest;
 pub use label::Label;
 pub use meter::Meter;
-pub use quoted::push_quoted;
+pub use quoted::{push_escaped, push_quoted};
 pub use read::{ReadFault, read_bytes};
 pub use shape::{Shape, built};
 pub use tree::Tree;

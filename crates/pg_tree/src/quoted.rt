@@ -14,13 +14,13 @@ pub fn push_quoted(content: &[u8], text: &mut Vec<u8>) -> Result<(), AllocError>
     ensures { OnOk result (text.new.items ≡ text.old.items ++ quoted content.now) }
 {
     text.push(b'"')?;
-    push_content(content, text)?;
+    push_escaped(content, text)?;
     text.push(b'"')?;
     Ok(())
 }
 
-/// Appends what stands between the quotes. Most texts have nothing to escape, and are copied at once.
-fn push_content(content: &[u8], text: &mut Vec<u8>) -> Result<(), AllocError>
+/// Appends what stands between the quotes of a UTF-8 text (ours). Most texts have nothing to escape, and are copied at once.
+pub fn push_escaped(content: &[u8], text: &mut Vec<u8>) -> Result<(), AllocError>
     ensures { OnOk result (text.new.items ≡ text.old.items ++ escape content.now) }
 {
     if is_plain(content) {
@@ -55,14 +55,14 @@ fn push_each(content: &[u8], text: &mut Vec<u8>) -> Result<(), AllocError>
     ensures { OnOk result (text.new.items ≡ text.old.items ++ escape content.now) }
 {
     for byte in content {
-        push_escaped(*byte, text)?;
+        push_byte(*byte, text)?;
     }
     Ok(())
 }
 
 /// Appends one byte of a quoted text, escaped if need be.
 #[tactic(auto, unfolding(json::specs::Print::escape_byte))]
-fn push_escaped(byte: u8, text: &mut Vec<u8>) -> Result<(), AllocError>
+fn push_byte(byte: u8, text: &mut Vec<u8>) -> Result<(), AllocError>
     ensures { OnOk result (text.new.items ≡ text.old.items ++ escape_byte byte) }
 {
     let letter = escape_letter(byte);

@@ -8,19 +8,15 @@ use Rattle.std.proofs.lemmas.Slice.Eq.{bytes_eq-Decides}
 use Rattle.json.specs.Print.{escape}
 use Rattle.pg_tree.specs.Trees.{Tree, Trees, leaf, node, no_trees, tree, kids_of}
 use Rattle.pg_tree.specs.Built.{with_kids, flattened, tree_text, kids_text}
-use Rattle.pg_tree.specs.Json.{json_tree, json_kids}
-use Rattle.pg_tree.specs.Written.{braces}
+use Rattle.pg_tree.specs.Json.{quoted, json_tree, json_kids}
 use Rattle.pg_tree.proofs.Flattening.{with_kids-no_trees, with_kids-assoc, kids_of-append, flattened-tree}
 use Rattle.pg_tree_placed.specs.Named.{label_at}
 use Rattle.pg_tree_placed.specs.Made.{text_between, kids_taken, kids_from, tree_made, with_entry}
-use Rattle.pg_tree_placed.specs.Written.{comma, quote, back_text, back_of, lifted, kids_left, nodes_left, joined_left, left_text, HaveKids, one_less, with_one_less, is_zero, less, lifts, with_lifted, closing, added_text, own_text, whole, nothing, noted_so, finished, unfinished, still_later, IsUnfinished, GoesBack, Settles, IsNoteOf}
+use Rattle.pg_tree_placed.specs.Written.{comma, back_text, back_of, lifted, kids_left, nodes_left, joined_left, left_text, HaveKids, one_less, with_one_less, is_zero, less, lifts, with_lifted, closing, added_text, outside, within, GoesBack, NodeBack}
 use Rattle.pg_tree_placed.specs.declared.entry.Entry.{Entry}
 use Rattle.pg_tree_placed.specs.declared.entry.Entry.TheVariants.{Leaf, Node, Flat, Join}
-use Rattle.pg_tree_placed.specs.declared.notes.Around.{Around}
-use Rattle.pg_tree_placed.specs.declared.notes.Left.{Left}
-use Rattle.pg_tree_placed.specs.declared.notes.Passed.{Passed}
-use Rattle.pg_tree_placed.specs.declared.notes.Settled.{Settled}
-use Rattle.pg_tree_placed.specs.declared.notes.Manner.TheVariants.{Bare}
+use Rattle.pg_tree_placed.specs.declared.pending.Around.{Around}
+use Rattle.pg_tree_placed.specs.declared.stepping.Left.{Left}
 use Rattle.pg_tree_placed.proofs.BackText.{back-kids}
 use Rattle.pg_tree_placed.proofs.Plain.{escape-append}
 
@@ -111,7 +107,7 @@ from-add k j ts =
 
 -- ---- steps back
 
-abbrev around : ℕ → ℕ → ℕ → Around
+abbrev pub around : ℕ → ℕ → ℕ → Around
 around plain flat label = record { plain = plain; flat = flat; label = label }
 
 abbrev total : Around → ℕ
@@ -222,71 +218,61 @@ joined-step labels cs text ts e (suc j) h =
 
 -- ---- a step back, by its kind
 
-abbrev outside : Bool → Left
-outside later = record { later = later; inside = false; joined = 0 }
+-- a step's text and a comma come before what is written
+before : (xs left own more old new : List ℕ) → xs ≡ left ++ (own ++ more) → new ≡ own ++ (more ++ old) → xs ++ old ≡ left ++ new
+before xs left own more old new so is =
+    ap (λ ys. ys ++ old) so ∙ append_assoc left (own ++ more) old ∙ ap (λ ys. left ++ ys) (append_assoc own more old ∙ sym is)
 
-abbrev within : ℕ → Left
-within n = record { later = true; inside = true; joined = n }
+-- the same from an equal state
+pub with_left : (labels : List (List ℕ)) (xs : List ℕ) (y z : Left) (ds : List Around) (ts : List Tree) (new : List ℕ) → z ≡ y
+    → xs ≡ left_text labels y ds ts ++ new → xs ≡ left_text labels z ds ts ++ new
+with_left labels xs y z ds ts new is so = subst (λ (s : Left). xs ≡ left_text labels s ds ts ++ new) (sym is) so
 
-pub leaf_back : (labels : List (List ℕ)) (s : Left) (cs ds : List Around) (from to : ℕ) → s.inside ≡ false → HaveKids cs → ds ≡ with_one_less cs
-    → GoesBack labels s cs (Leaf from to) (whole s.later (outside true)) ds
-leaf_back labels s cs ds from to out h e text ts =
+pub leaf_back : (text : List ℕ) (labels : List (List ℕ)) (s z : Left) (cs ds : List Around) (from to : ℕ) (old new : List ℕ) → s.inside ≡ false → HaveKids cs
+    → z ≡ outside true → ds ≡ with_one_less cs → new ≡ quoted (text_between text from to) ++ (comma s.later ++ old)
+    → GoesBack text labels s cs (Leaf from to) old z ds new
+leaf_back text labels s z cs ds from to old new out h is e n ts =
     let t = leaf (text_between text from to) in
+    let xs = left_text labels s cs (t ∷ ts) in
+    let left = nodes_left labels true ds ts in
+    let so : xs ≡ left ++ (json_tree t ++ comma s.later) =
     ap (λ b. cond b (joined_left labels s.joined cs (t ∷ ts)) (nodes_left labels s.later cs (t ∷ ts))) out
     ∙ shown labels s.later cs t ts h (stays-leaf labels cs (text_between text from to) ts h)
-    ∙ ap (λ xs. nodes_left labels true xs ts ++ (json_tree t ++ comma s.later)) (sym e)
+    ∙ ap (λ ys. nodes_left labels true ys ts ++ (json_tree t ++ comma s.later)) (sym e) in
+    with_left labels (xs ++ old) (outside true) z ds ts new is (before xs left (json_tree t) (comma s.later) old new so n)
 
-pub join_back : (labels : List (List ℕ)) (s : Left) (cs ds : List Around) (k : ℕ) → s.inside ≡ false → HaveKids cs → ds ≡ with_one_less cs
-    → GoesBack labels s cs (Join k) (whole s.later (within k)) ds
-join_back labels s cs ds k out h e text ts =
+pub join_back : (text : List ℕ) (labels : List (List ℕ)) (s z : Left) (cs ds : List Around) (k : ℕ) (old new : List ℕ) → s.inside ≡ false → HaveKids cs
+    → z ≡ within k → ds ≡ with_one_less cs → new ≡ codes "\"" ++ (comma s.later ++ old) → GoesBack text labels s cs (Join k) old z ds new
+join_back text labels s z cs ds k old new out h is e n ts =
     let x = kids_text (kids_from k ts) in
+    let us = leaf x ∷ drop k ts in
+    let xs = left_text labels s cs us in
     let outer = nodes_left labels true ds (drop k ts) in
+    let left = outer ++ (codes "\"" ++ escape x) in
     let end = codes "\"" ++ comma s.later in
-    ap (λ b. cond b (joined_left labels s.joined cs (leaf x ∷ drop k ts)) (nodes_left labels s.later cs (leaf x ∷ drop k ts))) out
+    let so : xs ≡ left ++ end =
+    ap (λ b. cond b (joined_left labels s.joined cs us) (nodes_left labels s.later cs us)) out
     ∙ shown labels s.later cs (leaf x) (drop k ts) h (stays-leaf labels cs x (drop k ts) h)
-    ∙ ap (λ xs. nodes_left labels true xs (drop k ts) ++ (json_tree (leaf x) ++ comma s.later)) (sym e)
-    ∙ ap (λ xs. outer ++ (34 ∷ xs)) (append_assoc (escape x) (codes "\"") (comma s.later))
-    ∙ sym (append_assoc outer (codes "\"" ++ escape x) end)
-
-inside_step : (labels : List (List ℕ)) (s : Left) (cs : List Around) (e : Entry) → s.inside ≡ true → 0 < s.joined
-    → GoesBack labels s cs e (record { manner = Bare; comma = false; left = record { later = true; inside = true; joined = kids_taken e + less s.joined } }) cs
-inside_step labels s cs e is h text ts =
-    let us = with_entry text labels ts e in
-    ap (λ b. cond b (joined_left labels s.joined cs us) (nodes_left labels s.later cs us)) is
-    ∙ joined-step labels cs text ts e s.joined h
-    ∙ ap (λ xs. joined_left labels (kids_taken e + less s.joined) cs ts ++ xs) (sym (append-nil (escape (added_text text e))))
+    ∙ ap (λ ys. nodes_left labels true ys (drop k ts) ++ (json_tree (leaf x) ++ comma s.later)) (sym e)
+    ∙ ap (λ ys. outer ++ (34 ∷ ys)) (append_assoc (escape x) (codes "\"") (comma s.later))
+    ∙ sym (append_assoc outer (codes "\"" ++ escape x) end) in
+    with_left labels (xs ++ old) (within k) z ds ts new is (before xs left (codes "\"") (comma s.later) old new so n)
 
 less-is : (n : ℕ) → less n ≡ n - 1
 less-is zero = refl
 less-is (suc n) = omega arith
 
-pub inside_back : (labels : List (List ℕ)) (s : Left) (cs : List Around) (e : Entry) (p : Passed) → s.inside ≡ true → 0 < s.joined
-    → p ≡ record { manner = Bare; comma = false; left = record { later = true; inside = true; joined = kids_taken e + (s.joined - 1) } } → GoesBack labels s cs e p cs
-inside_back labels s cs e p is h so = subst (λ (q : Passed). GoesBack labels s cs e q cs) (sym (so ∙ ap (λ n. record { manner = Bare; comma = false; left = record { later = true; inside = true; joined = kids_taken e + n } }) (sym (less-is s.joined))))
-    (inside_step labels s cs e is h)
-
-pub node_back : (labels : List (List ℕ)) (s : Left) (cs ds : List Around) (label k : ℕ) → s.inside ≡ false → HaveKids cs → lifts labels cs (label_at labels label) ≡ false
-    → ds ≡ around k 0 label ∷ with_one_less cs → GoesBack labels s cs (Node label k) (whole s.later (outside false)) ds
-node_back labels s cs ds label k out h not e text ts =
-    let l = label_at labels label in
-    let us = node l (kids_from k ts) ∷ drop k ts in
-    let kids : json_kids (kids_from k ts) ≡ back_text false (kids_left labels (around k 0 label) ts) =
-    sym (back-kids (take k ts)) ∙ ap (λ xs. back_text false xs) (sym (append-nil (take k ts))) in
-    ap (λ b. cond b (joined_left labels s.joined cs us) (nodes_left labels s.later cs us)) out
-    ∙ node-opens labels s.later cs (around k 0 label) ts k l (kids_from k ts) h not (let z : k + 0 ≡ k = omega arith in z) kids
-    ∙ ap (λ xs. nodes_left labels false xs ts ++ (closing l ++ comma s.later)) (sym e)
-
-pub flat_back : (labels : List (List ℕ)) (s : Left) (cs ds : List Around) (label k : ℕ) → s.inside ≡ false → HaveKids cs → lifts labels cs (label_at labels label) ≡ false
-    → ds ≡ around 0 k label ∷ with_one_less cs → GoesBack labels s cs (Flat label k) (whole s.later (outside false)) ds
-flat_back labels s cs ds label k out h not e text ts =
-    let l = label_at labels label in
-    let ks = flattened l (kids_from k ts) in
-    let us = node l ks ∷ drop k ts in
-    let kids : json_kids ks ≡ back_text false (kids_left labels (around 0 k label) ts) =
-    sym (back-kids (lifted l (take k ts)) ∙ ap (λ xs. json_kids (kids_of (reverse xs))) (lifted-back l (take k ts)) ∙ ap json_kids (kids_of-back ks)) in
-    ap (λ b. cond b (joined_left labels s.joined cs us) (nodes_left labels s.later cs us)) out
-    ∙ node-opens labels s.later cs (around 0 k label) ts k l ks h not (let z : 0 + k ≡ k = omega arith in z) kids
-    ∙ ap (λ xs. nodes_left labels false xs ts ++ (closing l ++ comma s.later)) (sym e)
+pub inside_back : (text : List ℕ) (labels : List (List ℕ)) (s z : Left) (cs : List Around) (e : Entry) (old new : List ℕ) → s.inside ≡ true → 0 < s.joined
+    → z ≡ within (kids_taken e + (s.joined - 1)) → new ≡ escape (added_text text e) ++ old → GoesBack text labels s cs e old z cs new
+inside_back text labels s z cs e old new is h so n ts =
+    let us = with_entry text labels ts e in
+    let own = escape (added_text text e) in
+    let left = joined_left labels (kids_taken e + less s.joined) cs ts in
+    with_left labels (left_text labels s cs us ++ old) (within (kids_taken e + (s.joined - 1))) z cs ts new so
+    (ap (λ xs. xs ++ old) (ap (λ b. cond b (joined_left labels s.joined cs us) (nodes_left labels s.later cs us)) is
+    ∙ joined-step labels cs text ts e s.joined h)
+    ∙ append_assoc left own old ∙ ap (λ xs. left ++ xs) (sym n)
+    ∙ ap (λ m. joined_left labels (kids_taken e + m) cs ts ++ new) (less-is s.joined))
 
 same-label : (m l : List ℕ) (p : ℕ) → (is_zero p && bytes_eq m l) ≡ true → m ≡ l
 same-label m l zero is = (bytes_eq-Decides m l).0 is
@@ -314,84 +300,54 @@ flat-lifted labels later (c ∷ cs) m ts k h is =
     ∙ ap (λ xs. xs ++ lifted l (take n (drop k ts))) (lifted-back l (take k ts) ∙ ap (λ x. back_of (flattened x (kids_from k ts))) (sym same)) in
     lifted-node labels later c.plain c.flat c.label cs m (flattened m (kids_from k ts)) ts k (around 0 (k + n) c.label) h is (let e : 0 + (k + n) ≡ k + n = omega arith in e) kids
 
-pub node_gone : (labels : List (List ℕ)) (s : Left) (cs ds : List Around) (label k : ℕ) → s.inside ≡ false → HaveKids cs → lifts labels cs (label_at labels label) ≡ true
-    → ds ≡ with_lifted k 0 cs → GoesBack labels s cs (Node label k) (nothing s.later) ds
-node_gone labels s cs ds label k out h is e text ts =
-    let us = with_entry text labels ts (Node label k) in
-    ap (λ b. cond b (joined_left labels s.joined cs us) (nodes_left labels s.later cs us)) out
-    ∙ node-lifted labels s.later cs (label_at labels label) ts k h is ∙ ap (λ xs. nodes_left labels s.later xs ts) (sym e)
-    ∙ sym (append-nil (nodes_left labels s.later ds ts))
+-- a node of some kids that is open then, or whose kids stand in its place
+node-step : (labels : List (List ℕ)) (s z : Left) (cs ds : List Around) (node_of : Around) (us ts : List Tree) (old new : List ℕ) (b : Bool) → s.inside ≡ false
+    → lifts labels cs (label_at labels node_of.label) ≡ b
+    → (b ≡ false → nodes_left labels s.later cs us ≡ nodes_left labels false (node_of ∷ with_one_less cs) ts ++ (closing (label_at labels node_of.label) ++ comma s.later))
+    → (b ≡ true → nodes_left labels s.later cs us ≡ nodes_left labels s.later (with_lifted node_of.plain node_of.flat cs) ts)
+    → NodeBack labels s.later cs node_of old z ds new → left_text labels s cs us ++ old ≡ left_text labels z ds ts ++ new
+node-step labels s z cs ds c us ts old new false out is shows gone it =
+    let so = it.is_open is in
+    let l = label_at labels c.label in
+    let xs = left_text labels s cs us in
+    with_left labels (xs ++ old) (outside false) z ds ts new so.0
+    (before xs (nodes_left labels false ds ts) (closing l) (comma s.later) old new
+    (ap (λ b. cond b (joined_left labels s.joined cs us) (nodes_left labels s.later cs us)) out ∙ shows refl
+    ∙ ap (λ ys. nodes_left labels false ys ts ++ (closing l ++ comma s.later)) (sym so.1)) so.2)
+node-step labels s z cs ds c us ts old new true out is shows gone it =
+    let so = it.is_gone is in
+    with_left labels (left_text labels s cs us ++ old) (outside s.later) z ds ts new so.0
+    (ap (λ b. cond b (joined_left labels s.joined cs us) (nodes_left labels s.later cs us) ++ old) out ∙ ap (λ xs. xs ++ old) (gone refl)
+    ∙ ap (λ ys. nodes_left labels s.later ys ts ++ old) (sym so.1) ∙ ap (λ xs. nodes_left labels s.later ds ts ++ xs) (sym so.2))
 
-pub flat_gone : (labels : List (List ℕ)) (s : Left) (cs ds : List Around) (label k : ℕ) → s.inside ≡ false → HaveKids cs → lifts labels cs (label_at labels label) ≡ true
-    → ds ≡ with_lifted 0 k cs → GoesBack labels s cs (Flat label k) (nothing s.later) ds
-flat_gone labels s cs ds label k out h is e text ts =
-    let us = with_entry text labels ts (Flat label k) in
-    ap (λ b. cond b (joined_left labels s.joined cs us) (nodes_left labels s.later cs us)) out
-    ∙ flat-lifted labels s.later cs (label_at labels label) ts k h is ∙ ap (λ xs. nodes_left labels s.later xs ts) (sym e)
-    ∙ sym (append-nil (nodes_left labels s.later ds ts))
+node-shown : (labels : List (List ℕ)) (later : Bool) (cs : List Around) (label k : ℕ) (ts : List Tree) → HaveKids cs → lifts labels cs (label_at labels label) ≡ false
+    → let l = label_at labels label in nodes_left labels later cs (node l (kids_from k ts) ∷ drop k ts)
+    ≡ nodes_left labels false (around k 0 label ∷ with_one_less cs) ts ++ (closing l ++ comma later)
+node-shown labels later cs label k ts h not =
+    let kids : json_kids (kids_from k ts) ≡ back_text false (kids_left labels (around k 0 label) ts) =
+    sym (back-kids (take k ts)) ∙ ap (λ xs. back_text false xs) (sym (append-nil (take k ts))) in
+    node-opens labels later cs (around k 0 label) ts k (label_at labels label) (kids_from k ts) h not (let z : k + 0 ≡ k = omega arith in z) kids
 
--- ---- what begins then
+flat-shown : (labels : List (List ℕ)) (later : Bool) (cs : List Around) (label k : ℕ) (ts : List Tree) → HaveKids cs → lifts labels cs (label_at labels label) ≡ false
+    → let l = label_at labels label in nodes_left labels later cs (node l (flattened l (kids_from k ts)) ∷ drop k ts)
+    ≡ nodes_left labels false (around 0 k label ∷ with_one_less cs) ts ++ (closing l ++ comma later)
+flat-shown labels later cs label k ts h not =
+    let l = label_at labels label in
+    let ks = flattened l (kids_from k ts) in
+    let kids : json_kids ks ≡ back_text false (kids_left labels (around 0 k label) ts) =
+    sym (back-kids (lifted l (take k ts)) ∙ ap (λ xs. json_kids (kids_of (reverse xs))) (lifted-back l (take k ts)) ∙ ap json_kids (kids_of-back ks)) in
+    node-opens labels later cs (around 0 k label) ts k l ks h not (let z : 0 + k ≡ k = omega arith in z) kids
 
-still_true : (n : ℕ) → still_later true n ≡ true
-still_true zero = refl
-still_true (suc n) = refl
+pub node_back : (text : List ℕ) (labels : List (List ℕ)) (s z : Left) (cs ds : List Around) (label k : ℕ) (old new : List ℕ) → s.inside ≡ false → HaveKids cs
+    → NodeBack labels s.later cs (around k 0 label) old z ds new → GoesBack text labels s cs (Node label k) old z ds new
+node_back text labels s z cs ds label k old new out h it ts =
+    let l = label_at labels label in
+    node-step labels s z cs ds (around k 0 label) (with_entry text labels ts (Node label k)) ts old new (lifts labels cs l) out refl
+    (λ not. node-shown labels s.later cs label k ts h not) (λ is. node-lifted labels s.later cs l ts k h is) it
 
-finish-cons : (labels : List (List ℕ)) (later : Bool) (p f l : ℕ) (cs : List Around) (ts : List Tree)
-    → nodes_left labels true cs ts ≡ nodes_left labels (still_later true (finished cs)) (unfinished cs) ts ++ braces (finished cs)
-    → nodes_left labels later (around p f l ∷ cs) ts
-    ≡ nodes_left labels (still_later later (finished (around p f l ∷ cs))) (unfinished (around p f l ∷ cs)) ts ++ braces (finished (around p f l ∷ cs))
-finish-cons labels later zero zero l cs ts so =
-    ap (λ xs. xs ++ codes "{\"kids\":[") (so ∙ ap (λ b. nodes_left labels b (unfinished cs) ts ++ braces (finished cs)) (still_true (finished cs)))
-    ∙ append_assoc (nodes_left labels true (unfinished cs) ts) (braces (finished cs)) (codes "{\"kids\":[")
-finish-cons labels later zero (suc n) l cs ts so = sym (append-nil (nodes_left labels later (around 0 (suc n) l ∷ cs) ts))
-finish-cons labels later (suc n) f l cs ts so = sym (append-nil (nodes_left labels later (around (suc n) f l ∷ cs) ts))
-
-finish : (labels : List (List ℕ)) (later : Bool) (cs : List Around) (ts : List Tree)
-    → nodes_left labels later cs ts ≡ nodes_left labels (still_later later (finished cs)) (unfinished cs) ts ++ braces (finished cs)
-finish labels later [] ts = sym (append-nil (nodes_left labels later [] ts))
-finish labels later (c ∷ cs) ts = finish-cons labels later c.plain c.flat c.label cs ts (finish labels true cs ts)
-
-has-cons : (p f l : ℕ) (cs : List Around) → HaveKids (unfinished cs) → HaveKids (unfinished (around p f l ∷ cs))
-has-cons zero zero l cs h = h
-has-cons zero (suc n) l cs h = omega arith
-has-cons (suc n) f l cs h = omega arith
-
-has-kids : (cs : List Around) → HaveKids (unfinished cs)
-has-kids [] = tt
-has-kids (c ∷ cs) = has-cons c.plain c.flat c.label cs (has-kids cs)
-
-pub settled_inside : (s : Left) (cs : List Around) → Settles s cs (record { opens = 0; quote = false; left = s }) cs
-settled_inside s cs labels ts = sym (append-nil (left_text labels s cs ts))
-
-pub unfinished_inside : (s : Left) (cs : List Around) → s.inside ≡ true → 0 < s.joined → IsUnfinished s cs
-unfinished_inside s cs is h = (λ _. h, λ not. true_no (sym not ∙ is))
-
-pub unfinished_outside : (s : Left) (cs ds : List Around) → s.inside ≡ false → ds ≡ unfinished cs → IsUnfinished s ds
-unfinished_outside s cs ds is e = (λ yes. true_no (sym is ∙ yes), λ _. subst HaveKids (sym e) (has-kids cs))
-
-settled-by : (labels : List (List ℕ)) (inside later : Bool) (joined : ℕ) (cs : List Around) (ts : List Tree) → (inside ≡ true → joined ≡ 0)
-    → cond inside (joined_left labels joined cs ts) (nodes_left labels later cs ts)
-    ≡ nodes_left labels (still_later (cond inside true later) (finished cs)) (unfinished cs) ts ++ (braces (finished cs) ++ quote inside)
-settled-by labels false later joined cs ts none =
-    finish labels later cs ts ∙ ap (λ xs. nodes_left labels (still_later later (finished cs)) (unfinished cs) ts ++ xs) (sym (append-nil (braces (finished cs))))
-settled-by labels true later joined cs ts none =
-    ap (λ n. joined_left labels n cs ts) (none refl) ∙ ap (λ xs. xs ++ codes "\"") (finish labels true cs ts)
-    ∙ append_assoc (nodes_left labels (still_later true (finished cs)) (unfinished cs) ts) (braces (finished cs)) (codes "\"")
-
-pub settled_outside : (s : Left) (cs ds : List Around) (opens : ℕ) (later : Bool) → (s.inside ≡ true → s.joined ≡ 0) → opens ≡ finished cs → ds ≡ unfinished cs
-    → later ≡ still_later (cond s.inside true s.later) opens
-    → Settles s cs (record { opens = opens; quote = s.inside; left = record { later = later; inside = false; joined = 0 } }) ds
-settled_outside s cs ds opens later none a b c labels ts =
-    settled-by labels s.inside s.later s.joined cs ts none
-    ∙ ap (λ n. nodes_left labels (still_later (cond s.inside true s.later) n) (unfinished cs) ts ++ (braces n ++ quote s.inside)) (sym a)
-    ∙ ap (λ x. nodes_left labels x (unfinished cs) ts ++ (braces opens ++ quote s.inside)) (sym c)
-    ∙ ap (λ xs. nodes_left labels later xs ts ++ (braces opens ++ quote s.inside)) (sym b)
-
--- both
-pub note_back : (labels : List (List ℕ)) (s : Left) (cs ds fs : List Around) (e : Entry) (p : Passed) (z : Settled) → GoesBack labels s cs e p ds → Settles p.left ds z fs
-    → IsNoteOf labels s cs e z.left fs (noted_so p z).note
-note_back labels s cs ds fs e p z back settles text ts =
-    let own = own_text text labels p.manner e ++ comma p.comma in
-    let left = left_text labels z.left fs ts in
-    back text ts ∙ ap (λ xs. xs ++ own) (settles labels ts) ∙ append_assoc left (braces z.opens ++ quote z.quote) own
-    ∙ ap (λ xs. left ++ xs) (append_assoc (braces z.opens) (quote z.quote) own)
+pub flat_back : (text : List ℕ) (labels : List (List ℕ)) (s z : Left) (cs ds : List Around) (label k : ℕ) (old new : List ℕ) → s.inside ≡ false → HaveKids cs
+    → NodeBack labels s.later cs (around 0 k label) old z ds new → GoesBack text labels s cs (Flat label k) old z ds new
+flat_back text labels s z cs ds label k old new out h it ts =
+    let l = label_at labels label in
+    node-step labels s z cs ds (around 0 k label) (with_entry text labels ts (Flat label k)) ts old new (lifts labels cs l) out refl
+    (λ not. flat-shown labels s.later cs label k ts h not) (λ is. flat-lifted labels s.later cs l ts k h is) it

@@ -1,33 +1,23 @@
 -- The text in JSON of steps. Going from the last step to the first, what is left to write is known at each of them.
-use Rattle.std.specs.Prelude.{◌≡◌, ◌+◌, ◌<◌, ◌&&◌, ℕ, zero, suc, Bool, true, false, List, [], ◌∷◌, ◌++◌, take, drop, codes, if◌then◌else◌}
+use Rattle.std.specs.Prelude.{◌≡◌, ◌+◌, ◌<◌, ◌&&◌, ℕ, zero, suc, Bool, true, false, List, [], ◌∷◌, ◌++◌, Option, Some, None, map, reverse, take, drop, codes, if◌then◌else◌}
 use Rattle.std.specs.Str.{bytes_eq}
 use Rattle.json.specs.Print.{escape}
 use Rattle.pg_tree.specs.Trees.{Tree, Trees, leaf, node, no_trees, tree}
 use Rattle.pg_tree.specs.Built.{kids_text}
 use Rattle.pg_tree.specs.Json.{quoted, json_tree}
-use Rattle.pg_tree.specs.Written.{braces}
 use Rattle.pg_tree_placed.specs.Made.{text_between, with_entry, kids_from}
 use Rattle.pg_tree_placed.specs.Named.{label_at}
 use Rattle.pg_tree_placed.specs.declared.entry.Entry.{Entry}
 use Rattle.pg_tree_placed.specs.declared.entry.Entry.TheVariants.{Leaf, Node, Flat, Join}
-use Rattle.pg_tree_placed.specs.declared.notes.Around.{Around}
-use Rattle.pg_tree_placed.specs.declared.notes.Manner.{Manner}
-use Rattle.pg_tree_placed.specs.declared.notes.Manner.TheVariants.{Whole, Bare, Nothing}
-use Rattle.pg_tree_placed.specs.declared.notes.Note.{Note}
-use Rattle.pg_tree_placed.specs.declared.notes.Left.{Left}
-use Rattle.pg_tree_placed.specs.declared.notes.Passed.{Passed}
-use Rattle.pg_tree_placed.specs.declared.notes.Settled.{Settled}
-use Rattle.pg_tree_placed.specs.declared.notes.StepNote.{StepNote}
+use Rattle.pg_tree_placed.specs.declared.pending.Around.{Around}
+use Rattle.pg_tree_placed.specs.declared.pending.Pending.{Pending}
+use Rattle.pg_tree_placed.specs.declared.stepping.Left.{Left}
+use Rattle.pg_tree_placed.specs.declared.source.Source.{Source}
 
 -- a comma behind a tree, if another comes after it
 abbrev pub comma : Bool → List ℕ
 comma false = []
 comma true = codes ","
-
--- a quote, if it is wanted
-abbrev pub quote : Bool → List ℕ
-quote false = []
-quote true = codes "\""
 
 -- the text of trees, the last first; `later` says whether another comes after them
 abbrev pub back_text : Bool → List Tree → List ℕ
@@ -44,6 +34,14 @@ abbrev pub lifted : List ℕ → List Tree → List Tree
 lifted label [] = []
 lifted label (leaf text ∷ ts) = leaf text ∷ lifted label ts
 lifted label (node other kids ∷ ts) = if bytes_eq other label then back_of kids ++ lifted label ts else node other kids ∷ lifted label ts
+
+-- the nodes that are open, the innermost first
+abbrev pub innermost_first : Option Around → List Around → List Around
+innermost_first None outer = []
+innermost_first (Some top) outer = top ∷ reverse outer
+
+abbrev pub open_in : Pending → List Around
+open_in p = innermost_first p.top p.outer.items
 
 -- the kids of an open node that are left: some as they are, and before them some that are lifted
 abbrev pub kids_left : List (List ℕ) → Around → List Tree → List Tree
@@ -101,13 +99,6 @@ with_lifted plain flat (c ∷ cs) = record { plain = plain; flat = flat + less c
 abbrev pub closing : List ℕ → List ℕ
 closing label = codes "],\"node\":" ++ (quoted label ++ codes "}")
 
--- a step's own text: a leaf, the end of a joined leaf, or the end of a node
-abbrev pub whole_text : List ℕ → List (List ℕ) → Entry → List ℕ
-whole_text text labels (Leaf from to) = quoted (text_between text from to)
-whole_text text labels (Node label kids) = closing (label_at labels label)
-whole_text text labels (Flat label kids) = closing (label_at labels label)
-whole_text text labels (Join kids) = codes "\""
-
 -- the text that a step adds to a leaf that is joined
 abbrev pub added_text : List ℕ → Entry → List ℕ
 added_text text (Leaf from to) = text_between text from to
@@ -115,45 +106,34 @@ added_text text (Node label kids) = []
 added_text text (Flat label kids) = []
 added_text text (Join kids) = []
 
-abbrev pub own_text : List ℕ → List (List ℕ) → Manner → Entry → List ℕ
-own_text text labels Whole e = whole_text text labels e
-own_text text labels Bare e = escape (added_text text e)
-own_text text labels Nothing e = []
+-- what is left to write before `old` comes, a step back, to what is left before `new`: the step's own text stands at the front of `new`
+abbrev pub GoesBack : List ℕ → List (List ℕ) → Left → List Around → Entry → List ℕ → Left → List Around → List ℕ → Type 0
+GoesBack text labels s cs e old z ds new = (ts : List Tree) → left_text labels s cs (with_entry text labels ts e) ++ old ≡ left_text labels z ds ts ++ new
 
--- the text of a step with its note
-abbrev pub noted_text : List ℕ → List (List ℕ) → Entry → Note → List ℕ
-noted_text text labels e n = braces n.opens ++ (quote n.quote ++ (own_text text labels n.manner e ++ comma n.comma))
+-- what begins there has been written: nodes with no kids left, and a joined leaf of which nothing is left
+abbrev pub Settles : List (List ℕ) → Left → List Around → List ℕ → Left → List Around → List ℕ → Type 0
+Settles labels s cs old z ds new = (ts : List Tree) → left_text labels s cs ts ++ old ≡ left_text labels z ds ts ++ new
 
--- the text of steps with their notes
-abbrev pub steps_text : List ℕ → List (List ℕ) → List Entry → List Note → List ℕ
-steps_text text labels [] ns = []
-steps_text text labels (e ∷ es) [] = []
-steps_text text labels (e ∷ es) (n ∷ ns) = noted_text text labels e n ++ steps_text text labels es ns
+-- outside of a joined leaf, and inside with so many trees left
+abbrev pub outside : Bool → Left
+outside later = record { later = later; inside = false; joined = 0 }
 
--- a step back: what is left then, and the step's own text
-abbrev pub GoesBack : List (List ℕ) → Left → List Around → Entry → Passed → List Around → Type 0
-GoesBack labels s cs e p ds = (text : List ℕ) (ts : List Tree)
-    → left_text labels s cs (with_entry text labels ts e) ≡ left_text labels p.left ds ts ++ (own_text text labels p.manner e ++ comma p.comma)
+abbrev pub within : ℕ → Left
+within joined = record { later = true; inside = true; joined = joined }
 
--- a step back that writes its own text, and one that writes nothing
-abbrev pub whole : Bool → Left → Passed
-whole later z = record { manner = Whole; comma = later; left = z }
+-- a step back over a node: it is open then and its closing text is written, or its kids stand in its place
+pub record NodeBack (labels : List (List ℕ)) (later : Bool) (cs : List Around) (node : Around) (old : List ℕ) (z : Left) (ds : List Around) (new : List ℕ) : Type 0 where
+  pub is_open : lifts labels cs (label_at labels node.label) ≡ false
+      → (z ≡ outside false) × (ds ≡ node ∷ with_one_less cs) × (new ≡ closing (label_at labels node.label) ++ (comma later ++ old))
+  pub is_gone : lifts labels cs (label_at labels node.label) ≡ true → (z ≡ outside later) × (ds ≡ with_lifted node.plain node.flat cs) × (new ≡ old)
 
-abbrev pub nothing : Bool → Passed
-nothing later = record { manner = Nothing; comma = false; left = record { later = later; inside = false; joined = 0 } }
+-- the closing text of a node, with a comma behind it
+abbrev pub closing_comma : List ℕ → List ℕ
+closing_comma label = closing label ++ codes ","
 
--- what begins then: nodes with no kids left, and a joined leaf of which nothing is left
-abbrev pub Settles : Left → List Around → Settled → List Around → Type 0
-Settles s cs z ds = (labels : List (List ℕ)) (ts : List Tree) → left_text labels s cs ts ≡ left_text labels z.left ds ts ++ (braces z.opens ++ quote z.quote)
-
--- the note of both
-abbrev pub noted_so : Passed → Settled → StepNote
-noted_so p z = record { note = record { opens = z.opens; manner = p.manner; quote = z.quote; comma = p.comma }; left = z.left }
-
--- all that a note says of a step back
-abbrev pub IsNoteOf : List (List ℕ) → Left → List Around → Entry → Left → List Around → Note → Type 0
-IsNoteOf labels s cs e z ds n = (text : List ℕ) (ts : List Tree)
-    → left_text labels s cs (with_entry text labels ts e) ≡ left_text labels z ds ts ++ noted_text text labels e n
+-- these are the closing texts of the labels, backwards
+abbrev pub AreClosings : Source → Type 0
+AreClosings s = map (λ text. reverse text.items) s.closings.now ≡ map closing_comma s.labels.now
 
 -- nodes with no kids left are written up to their first bytes: how many there are, and which nodes are still open
 abbrev pub is_full : ℕ → ℕ → Bool

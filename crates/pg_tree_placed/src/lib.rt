@@ -6,7 +6,10 @@ mod entry;
 mod forest;
 mod json_text;
 mod labels;
-mod notes;
+mod pending;
+mod pieces;
+mod source;
+mod stepping;
 mod store;
 
 pub use forest::PlacedForest;

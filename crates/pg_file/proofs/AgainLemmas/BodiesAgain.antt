@@ -14,12 +14,14 @@ use Rattle.pg_grammar_form.specs.declared.form.Leaf.{Leaf}
 use Rattle.pg_grammar_form.specs.declared.form.Leaf.TheVariants as leaf
 use Rattle.pg_grammar_form.specs.declared.form.Around.{Around}
 use Rattle.pg_grammar_form.specs.declared.form.Around.TheVariants as around
+use Rattle.pg_grammar_form.specs.declared.side.Side.{Side}
 use Rattle.pg_grammar_form.specs.declared.used.BuilderUse.{BuilderUse}
+use Rattle.pg_grammar_form.specs.declared.used.ChainBuilder.{ChainBuilder}
 use Rattle.pg_file_items.specs.Tree.{Value}
-use Rattle.pg_file_meaning.specs.Names.{builder_named}
+use Rattle.pg_file_meaning.specs.Names.{builder_named, chain_builder_named}
 use Rattle.pg_file_items.specs.Joined.{joined}
 use Rattle.pg_file_meaning.specs.Meaning.{Body, meant, all_meant}
-use Rattle.pg_file_print.specs.Canonical.{values_from, choice_from, build_from, value_at, leaf_value, around_value, value_of_form, values_of}
+use Rattle.pg_file_print.specs.Canonical.{values_from, choice_from, build_from, chain_from, value_at, leaf_value, around_value, value_of_form, values_of}
 use Rattle.pg_file.proofs.AgainLemmas.PrintedNames.{IsNamedForm, IsNamedBuilder}
 use Rattle.pg_file_print.proofs.PrinterLemmas.Bodies.{values_counted}
 use Rattle.pg_file.proofs.AgainLemmas.ClassesAgain.{class_again, joined_both}
@@ -66,6 +68,11 @@ build_again offer above used symbol (c ∷ s) v h e =
     ap (λ (u : BuilderUse). form.Around (around.Build u (encode_utf8_all (c ∷ s))) (record {}) ∷ meant offer above v) h
     ∙ ap (λ (t : List ℕ). form.Around (around.Build used t) (record {}) ∷ meant offer above v) e
 
+chain_again : (offer : Offer) (above : List names.Name) (side : Side) (used : ChainBuilder) (s : List ℕ) (v w : Value) → chain_builder_named offer (chars used.name) s ≡ used
+    → meant offer above (chain_from side (chars used.name) s v w) ≡ form.Chain side used (record {}) (record {}) ∷ (meant offer above v ++ meant offer above w)
+chain_again offer above side used [] v w h = ap (λ (u : ChainBuilder). form.Chain side u (record {}) (record {}) ∷ (meant offer above v ++ meant offer above w)) h
+chain_again offer above side used (c ∷ s) v w h = ap (λ (u : ChainBuilder). form.Chain side u (record {}) (record {}) ∷ (meant offer above v ++ meant offer above w)) h
+
 leaf_again : (offer : Offer) (items above : List names.Name) (l : Leaf names.Name) → IsNamedForm offer items above (form.Leaf l) → meant offer above (leaf_value items l) ≡ form.Leaf l ∷ []
 leaf_again offer items above (leaf.Satisfy class) h = ap (λ (c : List ClassPart). form.Leaf (leaf.Satisfy c) ∷ []) (class_again offer items above class h.whole h.named)
 leaf_again offer items above (leaf.NotFollowedBy class) h = ap (λ (c : List ClassPart). form.Leaf (leaf.NotFollowedBy c) ∷ []) (class_again offer items above class h.whole h.named)
@@ -89,8 +96,7 @@ form_again offer items above (form.Seq n) vs e k h = seq_again offer items above
 form_again offer items above (form.Choice n) vs e k h = choice_again offer above n vs e k
 form_again offer items above (form.Many part) vs e k h = one_again offer above (form.Many (record {})) vs e
 form_again offer items above (form.Chain s used operand separator) vs e k h =
-    let parts = meant offer above (value_at 0 vs) ++ meant offer above (value_at 1 vs) in
-    ap (λ (u : BuilderUse). form.Chain s u (record {}) (record {}) ∷ parts) h
+    chain_again offer above s used (chars used.symbol) (value_at 0 vs) (value_at 1 vs) h
     ∙ two_again offer above (form.Chain s used (record {}) (record {})) vs e
 form_again offer items above (form.Rule s) vs e k h = none_again offer above (form.Rule s) vs e
 form_again offer items above (form.Expression builders part) vs e k h =

@@ -18,8 +18,9 @@ use Rattle.pg_grammar_form.specs.declared.form.Form.TheVariants as form
 use Rattle.pg_grammar_form.specs.declared.form.Leaf.TheVariants as leaf
 use Rattle.pg_grammar_form.specs.declared.form.Around.TheVariants as around
 use Rattle.pg_grammar_form.specs.declared.used.BuilderUse.{BuilderUse}
+use Rattle.pg_grammar_form.specs.declared.used.ChainBuilder.{ChainBuilder}
 use Rattle.pg_file_print.specs.Canonical.{class_names}
-use Rattle.pg_file_meaning.specs.Names.{class_named, builder_named}
+use Rattle.pg_file_meaning.specs.Names.{class_named, builder_named, chain_builder_named}
 
 -- the name that a part is printed with stands for the part, above which class items of these names stand
 abbrev pub IsNamed : Offer → (items above : List names.Name) → ClassPart → Type 0
@@ -39,12 +40,16 @@ pub record IsNamedClass (offer : Offer) (items above : List names.Name) (parts :
 abbrev pub IsNamedBuilder : Offer → BuilderUse → Type 0
 IsNamedBuilder offer used = builder_named offer (chars used.name) ≡ used
 
+-- a chain's builder does, with its symbol
+abbrev pub IsNamedChain : Offer → ChainBuilder → Type 0
+IsNamedChain offer used = chain_builder_named offer (chars used.name) (chars used.symbol) ≡ used
+
 -- the names in a base form do, and a symbol is the text of its characters
 abbrev pub IsNamedForm : Offer → (items above : List names.Name) → BaseForm → Type 0
 IsNamedForm offer items above (form.Leaf (leaf.Satisfy class)) = IsNamedClass offer items above class
 IsNamedForm offer items above (form.Leaf (leaf.NotFollowedBy class)) = IsNamedClass offer items above class
 IsNamedForm offer items above (form.Leaf (leaf.Declare class)) = IsNamedClass offer items above class
-IsNamedForm offer items above (form.Chain side used operand separator) = IsNamedBuilder offer used
+IsNamedForm offer items above (form.Chain side used operand separator) = IsNamedChain offer used
 IsNamedForm offer items above (form.Expression builders part) = IsNamedBuilder offer builders.«infix» × IsNamedBuilder offer builders.prefix × IsNamedBuilder offer builders.postfix
 IsNamedForm offer items above (form.Around (around.Build used symbol) part) = IsNamedBuilder offer used × (encode_utf8_all (chars symbol) ≡ symbol)
 IsNamedForm offer items above _ = Unit {0}

@@ -1,5 +1,5 @@
 -- Bodies that a file may have: what the file's values mean is such, and what the names in it stand for.
-use Rattle.std.proofs.Common.{◌≡◌, ℕ, true, List, [], ◌∷◌, ◌++◌, refl, sym, ap, subst, arith}
+use Rattle.std.proofs.Common.{◌≡◌, ℕ, true, List, [], ◌∷◌, ◌++◌, refl, sym, ◌∙◌, ap, subst, arith}
 use Rattle.pg_file_items.proofs.ItemLemmas.Whole.{all_append}
 use Rattle.std.specs.List.{AllByRecursion}
 use Rattle.std.specs.Str.{chars, encode_utf8_all}
@@ -12,21 +12,22 @@ use Rattle.pg_grammar_form.specs.declared.form.Leaf.TheVariants as leaf
 use Rattle.pg_grammar_form.specs.declared.form.Around.{Around}
 use Rattle.pg_grammar_form.specs.declared.form.Around.TheVariants as around
 use Rattle.pg_grammar_form.specs.declared.used.BuilderUse.{BuilderUse}
+use Rattle.pg_grammar_form.specs.declared.used.ChainBuilder.{ChainBuilder}
 use Rattle.pg_file_items.specs.declared.words.ClassForm.{ClassForm}
 use Rattle.pg_file_items.specs.declared.words.ClassForm.TheVariants as class_form
 use Rattle.pg_grammar_form.specs.declared.side.Side.{Side}
 use Rattle.pg_file_tokens.specs.declared.token.Mark.TheVariants.{Comma, Close}
 use Rattle.pg_file_tokens.specs.Tokens.{Token, mark, literal}
 use Rattle.pg_file_tokens.specs.Lexical.{passes, is_name, is_scalar}
-use Rattle.pg_file_items.specs.Tree.{Value, Of_class, String, Seq, Of_some, Of_one, Of_two, Between, Chain, Expression, Build, Build_symbol, Label, End_of_text, Word, Rule, Values, No_value, And}
+use Rattle.pg_file_items.specs.Tree.{Value, Of_class, String, Seq, Of_some, Of_one, Of_two, Between, Chain, Chain_symbol, Expression, Build, Build_symbol, Label, End_of_text, Word, Rule, Values, No_value, And}
 use Rattle.pg_file_items.specs.Syntax.{written, written_list, written_more}
 use Rattle.pg_file_items.specs.Proper.{IsFreeName, IsBuilderName, IsLiteral, IsFilled, IsProper, AreProper}
 use Rattle.pg_file_items.specs.Heads.{heads, all_heads}
-use Rattle.pg_file_meaning.specs.Names.{builder_named, BuilderIsKnown, FormIsKnown}
+use Rattle.pg_file_meaning.specs.Names.{builder_named, chain_builder_named, BuilderIsKnown, FormIsKnown}
 use Rattle.pg_file_items.specs.Joined.{joined}
 use Rattle.pg_file_meaning.specs.Meaning.{Body, class_of, chain_of, meant, all_meant}
 use Rattle.pg_file.proofs.AgainLemmas.Printable.{ArePrintable}
-use Rattle.pg_file.proofs.AgainLemmas.PrintedNames.{IsNamedBuilder, IsNamedForm}
+use Rattle.pg_file.proofs.AgainLemmas.PrintedNames.{IsNamedBuilder, IsNamedChain, IsNamedForm}
 use Rattle.pg_file_tokens.proofs.Encoded.{chars_encoded}
 use Rattle.pg_file_meaning.proofs.MeaningLemmas.Composing.{IsBare, Composes, composes_some, composes_one, composes_two, composes_between}
 use Rattle.pg_file.proofs.AgainLemmas.Found.{AreFoundAgain}
@@ -74,6 +75,27 @@ symbol_writable s short scalars =
 no_symbol : IsWritableSymbol []
 no_symbol = symbol_writable [] (omega arith) refl
 
+-- a chain's builder with its symbol that a file may have
+pub record IsWritableChain (offer : Offer) (used : ChainBuilder) : Type 0 where
+  pub named : IsNamedChain offer used
+  pub name : is_name (chars used.name) ≡ true
+  pub short : IsBuilderName (chars used.name)
+  pub known : BuilderIsKnown offer (chars used.name)
+  pub symbol : IsWritableSymbol used.symbol
+
+chain_builder_writable : (offer : Offer) (s symbol : List ℕ) → is_name s ≡ true → IsBuilderName s → BuilderIsKnown offer s → IsLiteral symbol → passes is_scalar symbol ≡ true
+    → IsWritableChain offer (chain_builder_named offer s symbol)
+chain_builder_writable offer s symbol name short known length_fits scalars =
+    let builder = builder_writable offer s name short known in
+    let written = symbol_writable symbol length_fits scalars in
+    record {
+      named = ap (λ (t : List ℕ). chain_builder_named offer t (chars (encode_utf8_all symbol))) (chars_encoded s) ∙ ap (chain_builder_named offer s) (chars_encoded symbol);
+      name = builder.name;
+      short = builder.short;
+      known = builder.known;
+      symbol = written;
+    }
+
 -- ---- forms
 
 -- a base form that a file may have, where the class items have these names
@@ -83,7 +105,7 @@ IsWritableForm offer items (form.Leaf (leaf.String s)) = IsFilled s × (passes i
 IsWritableForm offer items (form.Leaf (leaf.Word s)) = IsWritableName s
 IsWritableForm offer items (form.Leaf (leaf.NotFollowedBy class)) = IsWritableExpression offer items items class
 IsWritableForm offer items (form.Leaf (leaf.Declare class)) = IsWritableExpression offer items items class
-IsWritableForm offer items (form.Chain side used operand separator) = IsWritableBuilder offer used
+IsWritableForm offer items (form.Chain side used operand separator) = IsWritableChain offer used
 IsWritableForm offer items (form.Rule s) = IsWritableName s
 IsWritableForm offer items (form.Expression builders part) = IsWritableBuilder offer builders.«infix» × IsWritableBuilder offer builders.prefix × IsWritableBuilder offer builders.postfix
 IsWritableForm offer items (form.Around (around.Build used symbol) part) = IsWritableBuilder offer used × IsWritableSymbol symbol
@@ -115,7 +137,7 @@ of_class_writable offer items class_form.Satisfy parts h = h
 of_class_writable offer items class_form.NotFollowedBy parts h = h
 of_class_writable offer items class_form.Declare parts h = h
 
-chain_writable : (offer : Offer) (items : List names.Name) (form : Side) (used : BuilderUse) → IsWritableBuilder offer used → IsWritableForm offer items (chain_of form used)
+chain_writable : (offer : Offer) (items : List names.Name) (form : Side) (used : ChainBuilder) → IsWritableChain offer used → IsWritableForm offer items (chain_of form used)
 chain_writable offer items form used h = h
 
 -- ---- what a value means
@@ -149,7 +171,12 @@ mutual
   value_writable offer classes items found (Chain form builder operand separator) rest h p k =
       let first = value_writable offer classes items found operand (mark Comma ∷ written separator (mark Close ∷ rest)) h.1 p.1.1.1.1 (each_first (FormIsKnown offer classes) (heads operand) (heads separator) k.1) in
       let second = value_writable offer classes items found separator (mark Close ∷ rest) h.2 first.1.1 (each_second (FormIsKnown offer classes) (heads operand) (heads separator) k.1) in
-      let used = chain_writable offer items form _ (builder_writable offer builder p.1.1.0 h.0 k.0) in
+      let used = chain_writable offer items form _ (chain_builder_writable offer builder [] p.1.1.0 h.0 k.0 (omega arith) refl) in
+      ((used, all_append (IsWritableForm offer items) (meant offer classes operand) (meant offer classes separator) first.0 second.0), second.1.1)
+  value_writable offer classes items found (Chain_symbol form builder symbol operand separator) rest h p k =
+      let first = value_writable offer classes items found operand (mark Comma ∷ written separator (mark Close ∷ rest)) h.2 p.1.1.1.1.1.1 (each_first (FormIsKnown offer classes) (heads operand) (heads separator) k.1) in
+      let second = value_writable offer classes items found separator (mark Close ∷ rest) h.3 first.1.1 (each_second (FormIsKnown offer classes) (heads operand) (heads separator) k.1) in
+      let used = chain_writable offer items form _ (chain_builder_writable offer builder symbol p.1.1.0 h.0 k.0 h.1 p.1.1.1.1.0) in
       ((used, all_append (IsWritableForm offer items) (meant offer classes operand) (meant offer classes separator) first.0 second.0), second.1.1)
   value_writable offer classes items found (Expression infixes prefixes postfixes term) rest h p k =
       let q = value_writable offer classes items found term (mark Close ∷ rest) h.3 p.1.1.1.1.1.1.1.1 k.1 in

@@ -14,6 +14,7 @@ use Rattle.pg_grammar_form.specs.declared.form.Leaf.TheVariants as leaf
 use Rattle.pg_grammar_form.specs.declared.form.Around.{Around}
 use Rattle.pg_grammar_form.specs.declared.form.Around.TheVariants as around
 use Rattle.pg_grammar_form.specs.declared.used.BuilderUse.{BuilderUse}
+use Rattle.pg_grammar_form.specs.declared.used.ChainBuilder.{ChainBuilder}
 use Rattle.pg_file_items.specs.declared.words.ClassForm.{ClassForm}
 use Rattle.pg_file_items.specs.declared.words.ClassForm.TheVariants as class_form
 use Rattle.pg_file_items.specs.declared.words.SomeForm.{SomeForm}
@@ -30,10 +31,10 @@ use Rattle.pg_file_items.specs.Syntax.{class_word, some_word, one_word, chain_wo
 use Rattle.pg_file_items.specs.Proper.{IsLiteral, IsProper, AreProper}
 use Rattle.pg_file_items.specs.Heads.{heads, all_heads}
 use Rattle.pg_file_meaning.specs.Names.{FormIsKnown}
-use Rattle.pg_file_print.specs.Canonical.{class_from, values_from, value_at, choice_from, build_from, leaf_value, around_value, value_of_form, values_of}
+use Rattle.pg_file_print.specs.Canonical.{class_from, values_from, value_at, choice_from, build_from, chain_from, leaf_value, around_value, value_of_form, values_of}
 use Rattle.pg_file.proofs.AgainLemmas.Printable.{ArePrintable}
 use Rattle.pg_file.proofs.AgainLemmas.WritableClasses.{IsWritableExpression, printed_class_writable, IsWritableClass}
-use Rattle.pg_file.proofs.AgainLemmas.WritableBodies.{IsWritableBuilder, IsWritableForm, IsWritableBody}
+use Rattle.pg_file.proofs.AgainLemmas.WritableBodies.{IsWritableBuilder, IsWritableChain, IsWritableForm, IsWritableBody}
 
 -- a value that a file may have
 pub record IsWritableValue (offer : Offer) (items : List names.Name) (v : Value) : Type 0 where
@@ -120,12 +121,19 @@ chain_word_is_name : (form : Side) → is_name (chain_word form) ≡ true
 chain_word_is_name side.Left = refl
 chain_word_is_name side.Right = refl
 
-chain_value_writable : (offer : Offer) (items : List names.Name) (form : Side) (used : BuilderUse) (operand separator : Value) → IsWritableBuilder offer used
-    → IsWritableValue offer items operand → IsWritableValue offer items separator → IsWritableValue offer items (Chain form (chars used.name) operand separator)
-chain_value_writable offer items form used operand separator b h e = record {
+chain_value_writable : (offer : Offer) (items : List names.Name) (side : Side) (used : ChainBuilder) (symbol : List ℕ) (operand separator : Value) → IsWritableChain offer used
+    → IsLiteral symbol → passes is_scalar symbol ≡ true → IsWritableValue offer items operand → IsWritableValue offer items separator
+    → IsWritableValue offer items (chain_from side (chars used.name) symbol operand separator)
+chain_value_writable offer items side used [] operand separator b short scalars h e = record {
   proper = (b.short, h.proper, e.proper);
   printable = λ rest p.
-      (chain_word_is_name form, (tt, (b.name, (tt, h.printable (mark Comma ∷ written separator (mark Close ∷ rest)) (tt, e.printable (mark Close ∷ rest) (tt, p))))));
+      (chain_word_is_name side, (tt, (b.name, (tt, h.printable (mark Comma ∷ written separator (mark Close ∷ rest)) (tt, e.printable (mark Close ∷ rest) (tt, p))))));
+  known = (b.known, all_append (FormIsKnown offer items) (heads operand) (heads separator) h.known e.known);
+}
+chain_value_writable offer items side used (c ∷ symbol) operand separator b short scalars h e = record {
+  proper = (b.short, short, h.proper, e.proper);
+  printable = λ rest p.
+      (chain_word_is_name side, (tt, (b.name, (tt, (scalars, (tt, h.printable (mark Comma ∷ written separator (mark Close ∷ rest)) (tt, e.printable (mark Close ∷ rest) (tt, p))))))));
   known = (b.known, all_append (FormIsKnown offer items) (heads operand) (heads separator) h.known e.known);
 }
 
@@ -170,7 +178,7 @@ form_value_writable offer items (form.Seq n) values h e = seq_writable offer ite
 form_value_writable offer items (form.Choice n) values h e = choice_writable offer items values e
 form_value_writable offer items (form.Many part) values h e = one_writable offer items one_form.Many _ (value_at_writable offer items 0 values e)
 form_value_writable offer items (form.Chain side used operand separator) values h e =
-    chain_value_writable offer items side used _ _ h (value_at_writable offer items 0 values e) (value_at_writable offer items 1 values e)
+    chain_value_writable offer items side used (chars used.symbol) _ _ h h.symbol.short h.symbol.scalars (value_at_writable offer items 0 values e) (value_at_writable offer items 1 values e)
 form_value_writable offer items (form.Rule s) values h e = record { proper = h.free; printable = λ rest p. (h.name, p); known = (tt, tt) }
 form_value_writable offer items (form.Expression builders part) values h e =
     let term = value_at_writable offer items 0 values e in

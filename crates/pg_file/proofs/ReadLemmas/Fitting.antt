@@ -1,13 +1,14 @@
 -- A registry that offers what the names of a file stand for fits the grammar.
-use Rattle.std.proofs.Common.{◌≡◌, ℕ, zero, suc, Bool, true, false, ◌||◌, List, [], ◌∷◌, map, take, Option, Some, None, unwrap_or, refl, subst}
+use Rattle.std.proofs.Common.{◌≡◌, ℕ, zero, suc, Bool, true, false, ◌||◌, List, [], ◌∷◌, map, take, Option, Some, None, unwrap_or, option_map, refl, ap, subst}
 use Rattle.pg_grammar_form.proofs.Each.{all-take, all-drop}
 use Rattle.pg_file_items.proofs.ItemLemmas.Whole.{all_append}
 use Rattle.std.specs.List.{AllByRecursion}
 use Rattle.std.specs.Option.{is_some}
 use Rattle.std.specs.Str.{encode_utf8_all}
 use Rattle.pg_pred.specs.Offer.{Offer, predicate_class, builder_shape}
-use Rattle.pg_grammar_form.specs.Contents.{class_parts, builders_in}
-use Rattle.pg_grammar_value.specs.Fits.{PartFits, ClassFits, BuilderFits, BuildersFit, NodeFits, ItemsFit, WordFits, WordsFit, OperatorsFit, NodesFit, Fits}
+use Rattle.pg_grammar_form.specs.Contents.{class_parts, builders_in, chain_builder_in}
+use Rattle.pg_grammar_form.specs.Chains.{with_symbol}
+use Rattle.pg_grammar_value.specs.Fits.{PartFits, ClassFits, BuilderFits, BuildersFit, ChainFits, NodeFits, ItemsFit, WordFits, WordsFit, OperatorsFit, NodesFit, Fits}
 use Rattle.pg_grammar_form.specs.Forms.{BaseForm, Node, form_of}
 use Rattle.pg_grammar_value.specs.Grammar.{Grammar, rule_names, word_names}
 use Rattle.pg_grammar_form.specs.ClassItems.{item_class}
@@ -27,7 +28,7 @@ use Rattle.pg_file_items.specs.declared.words.ClassForm.TheVariants.{Satisfy}
 use Rattle.pg_file_items.specs.declared.words.SomeForm.{SomeForm}
 use Rattle.pg_file_items.specs.declared.words.SomeForm.TheVariants.{Choice, Try, Local}
 use Rattle.pg_grammar_form.specs.declared.side.Side.{Side}
-use Rattle.pg_file_meaning.specs.Names.{builder_named, item_or_predicate, PartIsKnown, ClassIsKnown, BuilderIsKnown, FormIsKnown}
+use Rattle.pg_file_meaning.specs.Names.{builder_named, chain_builder_named, item_or_predicate, PartIsKnown, ClassIsKnown, BuilderIsKnown, FormIsKnown}
 use Rattle.pg_file_items.specs.Joined.{joined}
 use Rattle.pg_file_meaning.specs.Meaning.{Body, some_of, class_of, chain_of}
 use Rattle.pg_file_meaning.specs.Bodies.{part_meant, parts_meant, body_at, body_of_form, bodies, body_meant}
@@ -70,7 +71,7 @@ builder_fits offer s h = is_there (builder_shape offer (encode_utf8_all s)) _ h
 
 -- the predicates and the builders that a base form names are offered
 abbrev FormFits : Offer → BaseForm → Type 0
-FormFits offer f = ClassFits offer (class_parts f) × BuildersFit offer (builders_in f)
+FormFits offer f = ClassFits offer (class_parts f) × BuildersFit offer (builders_in f) × ChainFits offer (chain_builder_in f)
 
 abbrev BodyFits : Offer → Body → Type 0
 BodyFits offer body = AllByRecursion (FormFits offer) body
@@ -88,8 +89,8 @@ body_fits offer zero (b ∷ bs) h = h.0
 body_fits offer (suc k) (b ∷ bs) h = body_fits offer k bs h.1
 
 -- a form in which nothing is named
-plain : Unit {0} × Unit {0}
-plain = (tt, tt)
+plain : Unit {0} × Unit {0} × Unit {0}
+plain = (tt, tt, tt)
 
 bare_fits : (offer : Offer) (k : Around) → IsBare k → FormFits offer (form.Around k (record {}))
 bare_fits offer (around.Build used symbol) bare = absurd bare
@@ -110,11 +111,11 @@ some_fits offer Local [] h = (plain, (plain, tt))
 some_fits offer form (b ∷ bs) h = composes_some (BodyFits offer) (fits_composes offer) form b bs h
 
 of_class_fits : (offer : Offer) (classes : List names.Name) (form : ClassForm) (parts : List WrittenPart) → ClassIsKnown offer classes parts → FormFits offer (class_of form (parts_meant offer classes parts))
-of_class_fits offer classes Satisfy parts h = (class_fits offer classes parts h, tt)
-of_class_fits offer classes _ parts h = (class_fits offer classes parts h, tt)
+of_class_fits offer classes Satisfy parts h = (class_fits offer classes parts h, tt, tt)
+of_class_fits offer classes _ parts h = (class_fits offer classes parts h, tt, tt)
 
-chain_fits : (offer : Offer) (form : Side) (s : names.Name) → BuilderIsKnown offer s → FormFits offer (chain_of form (builder_named offer s))
-chain_fits offer form s h = (tt, (builder_fits offer s h, tt))
+chain_fits : (offer : Offer) (side : Side) (s symbol : names.Name) → BuilderIsKnown offer s → FormFits offer (chain_of side (chain_builder_named offer s symbol))
+chain_fits offer side s symbol h = (tt, tt, ap (option_map (λ shape. with_symbol shape (encode_utf8_all symbol))) (builder_fits offer s h))
 
 form_fits : (offer : Offer) (classes : List names.Name) (form : WrittenForm) (bs : List Body) → FormIsKnown offer classes form → BodiesFit offer bs → BodyFits offer (body_of_form offer classes form bs)
 form_fits offer classes (written.OfClass form parts) bs h e = (of_class_fits offer classes form parts h, tt)
@@ -125,11 +126,11 @@ form_fits offer classes (written.OfOne form) bs h e = composes_one (BodyFits off
 form_fits offer classes (written.OfTwo form) bs h e = composes_two (BodyFits offer) (fits_composes offer) form (body_at 0 bs) (body_at 1 bs) (body_fits offer 0 bs e) (body_fits offer 1 bs e)
 form_fits offer classes written.Between bs h e =
     composes_between (BodyFits offer) (fits_composes offer) (body_at 0 bs) (body_at 1 bs) (body_at 2 bs) (body_fits offer 0 bs e) (body_fits offer 1 bs e) (body_fits offer 2 bs e)
-form_fits offer classes (written.Chain form builder) bs h e =
-    (chain_fits offer form builder h, all_append (FormFits offer) (body_at 0 bs) (body_at 1 bs) (body_fits offer 0 bs e) (body_fits offer 1 bs e))
+form_fits offer classes (written.Chain side builder symbol) bs h e =
+    (chain_fits offer side builder symbol h, all_append (FormFits offer) (body_at 0 bs) (body_at 1 bs) (body_fits offer 0 bs e) (body_fits offer 1 bs e))
 form_fits offer classes (written.Expression infixes prefixes postfixes) bs h e =
-    ((tt, (builder_fits offer infixes h.0, (builder_fits offer prefixes h.1, (builder_fits offer postfixes h.2, tt)))), body_fits offer 0 bs e)
-form_fits offer classes (written.Build builder symbol) bs h e = ((tt, (builder_fits offer builder h, tt)), body_fits offer 0 bs e)
+    ((tt, (builder_fits offer infixes h.0, (builder_fits offer prefixes h.1, (builder_fits offer postfixes h.2, tt))), tt), body_fits offer 0 bs e)
+form_fits offer classes (written.Build builder symbol) bs h e = ((tt, (builder_fits offer builder h, tt), tt), body_fits offer 0 bs e)
 form_fits offer classes (written.Label message) bs h e = (plain, body_fits offer 0 bs e)
 form_fits offer classes written.EndOfText bs h e = (plain, tt)
 form_fits offer classes (written.Word s) bs h e = (plain, tt)

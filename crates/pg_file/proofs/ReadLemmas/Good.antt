@@ -1,7 +1,7 @@
 -- The tokens of a file as it is written are good ones.
 use Rattle.std.proofs.Common.{ℕ, List, [], ◌∷◌, Option, Some, None}
 use Rattle.pg_file_tokens.specs.Tokens.{Token, AreGood}
-use Rattle.pg_file_items.specs.Tree.{Atom, Set, Range, Name, Not, Group, Class, Of, Atoms, No_atom, Or, Value, Of_class, String, Seq, Of_some, Of_one, Of_two, Between, Chain, Expression, Build, Build_symbol, Label, End_of_text, Word, Rule, Values, No_value, And, Item, Class_item, Word_item, Operators, Table, Start, Rule_item}
+use Rattle.pg_file_items.specs.Tree.{Atom, Set, Range, Name, Not, Group, Class, Of, Atoms, No_atom, Or, Value, Of_class, String, Seq, Of_some, Of_one, Of_two, Between, Chain, Chain_symbol, Expression, Build, Build_symbol, Label, End_of_text, Word, Rule, Values, No_value, And, Item, Class_item, Word_item, Operators, Table, Start, Rule_item}
 use Rattle.pg_file_items.specs.Syntax.{atom_written, class_written, atoms_written, written, written_list, written_more, literals_written, reserved_written, most_written, item_written, file_written}
 
 mutual
@@ -29,6 +29,7 @@ mutual
   value_good (Of_two form v separator) rest h = (tt, (tt, value_good v _ (tt, value_good separator _ (tt, h))))
   value_good (Between before after inner) rest h = (tt, (tt, value_good before _ (tt, value_good after _ (tt, value_good inner _ (tt, h)))))
   value_good (Chain form builder operand separator) rest h = (tt, (tt, (tt, (tt, value_good operand _ (tt, value_good separator _ (tt, h))))))
+  value_good (Chain_symbol form builder symbol operand separator) rest h = (tt, (tt, (tt, (tt, (tt, (tt, value_good operand _ (tt, value_good separator _ (tt, h))))))))
   value_good (Expression infixes prefixes postfixes term) rest h = (tt, (tt, (tt, (tt, (tt, (tt, (tt, (tt, value_good term _ (tt, h)))))))))
   value_good (Build builder v) rest h = (tt, (tt, (tt, (tt, value_good v _ (tt, h)))))
   value_good (Build_symbol builder symbol v) rest h = (tt, (tt, (tt, (tt, (tt, (tt, value_good v _ (tt, h)))))))

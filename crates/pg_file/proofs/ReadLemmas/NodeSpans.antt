@@ -95,7 +95,7 @@ all_of_form P (written.OfOne form) span bodies p a = all_one P form span (spans_
 all_of_form P (written.OfTwo form) span bodies p a = all_two P form span (spans_at 0 bodies) (spans_at 1 bodies) p (all_at P 0 bodies a) (all_at P 1 bodies a)
 all_of_form P written.Between span bodies p a =
     all_between P span (spans_at 0 bodies) (spans_at 1 bodies) (spans_at 2 bodies) p (all_at P 0 bodies a) (all_at P 1 bodies a) (all_at P 2 bodies a)
-all_of_form P (written.Chain form builder) span bodies p a = (p, all_append P (spans_at 0 bodies) (spans_at 1 bodies) (all_at P 0 bodies a) (all_at P 1 bodies a))
+all_of_form P (written.Chain form builder symbol) span bodies p a = (p, all_append P (spans_at 0 bodies) (spans_at 1 bodies) (all_at P 0 bodies a) (all_at P 1 bodies a))
 all_of_form P (written.Expression infixes prefixes postfixes) span bodies p a = (p, all_at P 0 bodies a)
 all_of_form P (written.Build builder symbol) span bodies p a = (p, all_at P 0 bodies a)
 all_of_form P (written.Label message) span bodies p a = (p, all_at P 0 bodies a)

@@ -5,7 +5,7 @@ use Rattle.pg_pred.specs.Offer.{Offer}
 use Rattle.pg_grammar_form.specs.Names as names
 use Rattle.pg_file_items.specs.declared.written.WrittenForm.{WrittenForm}
 use Rattle.pg_file_items.specs.declared.written.WrittenForm.TheVariants as written
-use Rattle.pg_file_items.specs.Tree.{Value, Of_class, String, Seq, Of_some, Of_one, Of_two, Between, Chain, Expression, Build, Build_symbol, Label, End_of_text, Word, Rule, Values, No_value, And}
+use Rattle.pg_file_items.specs.Tree.{Value, Of_class, String, Seq, Of_some, Of_one, Of_two, Between, Chain, Chain_symbol, Expression, Build, Build_symbol, Label, End_of_text, Word, Rule, Values, No_value, And}
 use Rattle.pg_file_items.specs.Heads.{class_parts, value_count, heads, all_heads}
 use Rattle.pg_file_meaning.specs.Meaning.{Body, meant, all_meant}
 use Rattle.pg_file_items.specs.Sizes.{part_count}
@@ -60,7 +60,11 @@ mutual
       (following offer classes (heads after) (heads inner) rest _ (meant offer classes inner ∷ [])
       (value_in_front offer classes after (heads inner ++ rest)) (value_in_front offer classes inner rest))) refl
   value_in_front offer classes (Chain form builder operand separator) rest =
-      taken offer classes (written.Chain form builder) ((heads operand ++ heads separator) ++ rest) (meant offer classes operand ∷ meant offer classes separator ∷ []) _
+      taken offer classes (written.Chain form builder []) ((heads operand ++ heads separator) ++ rest) (meant offer classes operand ∷ meant offer classes separator ∷ []) _
+      (following offer classes (heads operand) (heads separator) rest _ (meant offer classes separator ∷ [])
+      (value_in_front offer classes operand (heads separator ++ rest)) (value_in_front offer classes separator rest)) refl
+  value_in_front offer classes (Chain_symbol form builder symbol operand separator) rest =
+      taken offer classes (written.Chain form builder symbol) ((heads operand ++ heads separator) ++ rest) (meant offer classes operand ∷ meant offer classes separator ∷ []) _
       (following offer classes (heads operand) (heads separator) rest _ (meant offer classes separator ∷ [])
       (value_in_front offer classes operand (heads separator ++ rest)) (value_in_front offer classes separator rest)) refl
   value_in_front offer classes (Expression infixes prefixes postfixes term) rest =

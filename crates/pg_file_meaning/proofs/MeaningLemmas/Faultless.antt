@@ -17,9 +17,9 @@ use Rattle.pg_grammar_form.specs.declared.form.Around.TheVariants as around
 use Rattle.pg_file_items.specs.declared.words.ClassForm.{ClassForm}
 use Rattle.pg_file_items.specs.declared.words.ClassForm.TheVariants as class_form
 use Rattle.pg_grammar_form.specs.declared.side.Side.{Side}
-use Rattle.pg_file_items.specs.Tree.{Value, Of_class, String, Seq, Of_some, Of_one, Of_two, Between, Chain, Expression, Build, Build_symbol, Label, End_of_text, Word, Rule, Values, No_value, And}
+use Rattle.pg_file_items.specs.Tree.{Value, Of_class, String, Seq, Of_some, Of_one, Of_two, Between, Chain, Chain_symbol, Expression, Build, Build_symbol, Label, End_of_text, Word, Rule, Values, No_value, And}
 use Rattle.pg_file_items.specs.Proper.{IsFilled, IsProper, AreProper}
-use Rattle.pg_file_meaning.specs.Names.{builder_named}
+use Rattle.pg_file_meaning.specs.Names.{builder_named, chain_builder_named}
 use Rattle.pg_file_meaning.specs.Meaning.{Body, class_of, chain_of, builders_named, class_meant, meant, all_meant}
 use Rattle.pg_file_meaning.proofs.MeaningLemmas.Composing.{IsBare, Composes, composes_some, composes_one, composes_two, composes_between, IsFree, free_front, free_none, free_append, free_composes}
 use Rattle.pg_file_meaning.proofs.MeaningLemmas.ProperClasses.{ascending, short, short_name}
@@ -86,8 +86,9 @@ string_faultless s h = record { literals = isnt_empty (length s) h.0; short = rw
 builder_short : (offer : Offer) (builder : List ℕ) → length builder ≤ 64 → has_long_name (builder_named offer builder) ≡ false
 builder_short offer builder h = short_name 64 builder h
 
-chain_faultless : (offer : Offer) (form : Side) (builder : List ℕ) → length builder ≤ 64 → IsFaultlessForm (chain_of form (builder_named offer builder))
-chain_faultless offer form builder h = record { literals = refl; short = rw (builder_short offer builder h) refl }
+chain_faultless : (offer : Offer) (side : Side) (builder symbol : List ℕ) → length builder ≤ 64 → length symbol ≤ 1024
+    → IsFaultlessForm (chain_of side (chain_builder_named offer builder symbol))
+chain_faultless offer side builder symbol h e = record { literals = refl; short = rw (short_name 64 builder h, short_name 1024 symbol e) refl }
 
 expression_faultless : (offer : Offer) (infixes prefixes postfixes : List ℕ) → length infixes ≤ 64 → length prefixes ≤ 64 → length postfixes ≤ 64
     → IsFaultlessForm (form.Expression (builders_named offer infixes prefixes postfixes) (record {}))
@@ -119,7 +120,9 @@ mutual
   faultless_value offer items (Between before after inner) h =
       composes_between IsFaultless faultless_composes _ _ _ (faultless_value offer items before h.0) (faultless_value offer items after h.1) (faultless_value offer items inner h.2)
   faultless_value offer items (Chain form builder operand separator) h =
-      two _ _ _ (chain_faultless offer form builder h.0) (faultless_value offer items operand h.1) (faultless_value offer items separator h.2)
+      two _ _ _ (chain_faultless offer form builder [] h.0 (omega arith)) (faultless_value offer items operand h.1) (faultless_value offer items separator h.2)
+  faultless_value offer items (Chain_symbol form builder symbol operand separator) h =
+      two _ _ _ (chain_faultless offer form builder symbol h.0 h.1) (faultless_value offer items operand h.2) (faultless_value offer items separator h.3)
   faultless_value offer items (Expression infixes prefixes postfixes term) h = front _ _ (expression_faultless offer infixes prefixes postfixes h.0 h.1 h.2) (faultless_value offer items term h.3)
   faultless_value offer items (Build builder v) h = front _ _ (build_faultless offer builder [] h.0 (omega arith)) (faultless_value offer items v h.1)
   faultless_value offer items (Build_symbol builder symbol v) h = front _ _ (build_faultless offer builder symbol h.0 h.1) (faultless_value offer items v h.2)

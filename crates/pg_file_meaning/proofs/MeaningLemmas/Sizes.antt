@@ -13,7 +13,7 @@ use Rattle.pg_file_items.specs.declared.words.OneForm.{OneForm}
 use Rattle.pg_file_items.specs.declared.words.OneForm.TheVariants as one_form
 use Rattle.pg_file_items.specs.declared.words.TwoForm.{TwoForm}
 use Rattle.pg_file_items.specs.declared.words.TwoForm.TheVariants as two_form
-use Rattle.pg_file_items.specs.Tree.{Value, Of_class, String, Seq, Of_some, Of_one, Of_two, Between, Chain, Expression, Build, Build_symbol, Label, End_of_text, Word, Rule, Values, No_value, And}
+use Rattle.pg_file_items.specs.Tree.{Value, Of_class, String, Seq, Of_some, Of_one, Of_two, Between, Chain, Chain_symbol, Expression, Build, Build_symbol, Label, End_of_text, Word, Rule, Values, No_value, And}
 use Rattle.pg_file_items.specs.Heads.{class_parts, value_count, heads, all_heads}
 use Rattle.pg_file_items.specs.Joined.{joined}
 use Rattle.pg_file_meaning.specs.Meaning.{Body, seq_of, choice_of, optional, separated, skipped, repeated, whole_of, some_of, one_of, two_of, between_of, meant, all_meant}
@@ -125,7 +125,12 @@ mutual
       (value_sized offer classes after (heads inner ++ rest)) (value_sized offer classes inner rest))) refl
       (between_length (meant offer classes before) (meant offer classes after) (meant offer classes inner))
   value_sized offer classes (Chain form builder operand separator) rest =
-      taken (written.Chain form builder) ((heads operand ++ heads separator) ++ rest) (length (meant offer classes operand) ∷ length (meant offer classes separator) ∷ []) _ _
+      taken (written.Chain form builder []) ((heads operand ++ heads separator) ++ rest) (length (meant offer classes operand) ∷ length (meant offer classes separator) ∷ []) _ _
+      (following (heads operand) (heads separator) rest _ (length (meant offer classes separator) ∷ [])
+      (value_sized offer classes operand (heads separator ++ rest)) (value_sized offer classes separator rest)) refl
+      (chain_length (meant offer classes operand) (meant offer classes separator))
+  value_sized offer classes (Chain_symbol form builder symbol operand separator) rest =
+      taken (written.Chain form builder symbol) ((heads operand ++ heads separator) ++ rest) (length (meant offer classes operand) ∷ length (meant offer classes separator) ∷ []) _ _
       (following (heads operand) (heads separator) rest _ (length (meant offer classes separator) ∷ [])
       (value_sized offer classes operand (heads separator ++ rest)) (value_sized offer classes separator rest)) refl
       (chain_length (meant offer classes operand) (meant offer classes separator))

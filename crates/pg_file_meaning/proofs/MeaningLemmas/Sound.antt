@@ -11,12 +11,12 @@ use Rattle.pg_grammar_form.specs.Classes.{lacks_item}
 use Rattle.pg_grammar_form.specs.Forms.{BaseForm, part_count, lacks_alternative, has_unknown_class}
 use Rattle.pg_grammar_form.specs.declared.class.ClassPart.{ClassPart}
 use Rattle.pg_grammar_form.specs.declared.form.Form.TheVariants as form
-use Rattle.pg_grammar_form.specs.declared.used.BuilderUse.{BuilderUse}
+use Rattle.pg_grammar_form.specs.declared.used.ChainBuilder.{ChainBuilder}
 use Rattle.pg_file_items.specs.declared.words.ClassForm.{ClassForm}
 use Rattle.pg_file_items.specs.declared.words.ClassForm.TheVariants as class_form
 use Rattle.pg_grammar_form.specs.declared.side.Side.{Side}
-use Rattle.pg_file_items.specs.Tree.{Value, Of_class, String, Seq, Of_some, Of_one, Of_two, Between, Chain, Expression, Build, Build_symbol, Label, End_of_text, Word, Rule, Values, No_value, And}
-use Rattle.pg_file_meaning.specs.Names.{builder_named}
+use Rattle.pg_file_items.specs.Tree.{Value, Of_class, String, Seq, Of_some, Of_one, Of_two, Between, Chain, Chain_symbol, Expression, Build, Build_symbol, Label, End_of_text, Word, Rule, Values, No_value, And}
+use Rattle.pg_file_meaning.specs.Names.{chain_builder_named}
 use Rattle.pg_file_meaning.specs.Meaning.{Body, class_of, chain_of, class_meant, meant, all_meant}
 use Rattle.pg_file_meaning.proofs.MeaningLemmas.Composing.{Composes, composes_some, composes_one, composes_two, composes_between, IsWhole, whole_composes, whole_two, IsFree, free_front, free_none, free_append, free_composes}
 use Rattle.pg_file_meaning.proofs.MeaningLemmas.ProperClasses.{known}
@@ -80,7 +80,7 @@ class_form_sound count class_form.Satisfy parts h = record { parts = refl; alter
 class_form_sound count class_form.NotFollowedBy parts h = record { parts = refl; alternatives = refl; known = h }
 class_form_sound count class_form.Declare parts h = record { parts = refl; alternatives = refl; known = h }
 
-chain_form_sound : (count : ℕ) (side : Side) (used : BuilderUse) → IsSoundForm count 2 (chain_of side used)
+chain_form_sound : (count : ℕ) (side : Side) (used : ChainBuilder) → IsSoundForm count 2 (chain_of side used)
 chain_form_sound count side used = record { parts = refl; alternatives = refl; known = refl }
 
 mutual
@@ -94,7 +94,9 @@ mutual
   sound_value offer items (Between before after inner) =
       composes_between (IsSound (length items)) (sound_composes (length items)) _ _ _ (sound_value offer items before) (sound_value offer items after) (sound_value offer items inner)
   sound_value offer items (Chain form builder operand separator) =
-      two _ _ _ _ (chain_form_sound (length items) form (builder_named offer builder)) (sound_value offer items operand) (sound_value offer items separator)
+      two _ _ _ _ (chain_form_sound (length items) form (chain_builder_named offer builder [])) (sound_value offer items operand) (sound_value offer items separator)
+  sound_value offer items (Chain_symbol form builder symbol operand separator) =
+      two _ _ _ _ (chain_form_sound (length items) form (chain_builder_named offer builder symbol)) (sound_value offer items operand) (sound_value offer items separator)
   sound_value offer items (Expression infixes prefixes postfixes term) = wrap _ _ _ (record { parts = refl; alternatives = refl; known = refl }) (sound_value offer items term)
   sound_value offer items (Build builder v) = wrap _ _ _ (record { parts = refl; alternatives = refl; known = refl }) (sound_value offer items v)
   sound_value offer items (Build_symbol builder symbol v) = wrap _ _ _ (record { parts = refl; alternatives = refl; known = refl }) (sound_value offer items v)

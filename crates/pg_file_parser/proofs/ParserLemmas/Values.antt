@@ -15,7 +15,7 @@ use Rattle.pg_grammar_form.specs.declared.side.Side.{Side}
 use Rattle.pg_file_items.specs.declared.words.FormWord.{FormWord}
 use Rattle.pg_file_items.specs.declared.words.FormWord.TheVariants as word
 use Rattle.pg_file_tokens.specs.Tokens.{Token, name, number, literal, mark, wrong, bad}
-use Rattle.pg_file_items.specs.Tree.{Value, Of_class, String, Seq, Of_some, Of_one, Of_two, Between, Chain, Expression, Build, Build_symbol, Label, End_of_text, Word, Rule, Values, No_value, And}
+use Rattle.pg_file_items.specs.Tree.{Value, Of_class, String, Seq, Of_some, Of_one, Of_two, Between, Chain, Chain_symbol, Expression, Build, Build_symbol, Label, End_of_text, Word, Rule, Values, No_value, And}
 use Rattle.pg_file_items.specs.Syntax.{class_word, some_word, one_word, two_word, chain_word, class_written, opened, written, written_more}
 use Rattle.pg_file_items.specs.Proper.{IsProper, AreProper}
 use Rattle.pg_file_items.specs.Depth.{class_depth, depth, depths}
@@ -251,23 +251,6 @@ builder_is ts x e =
     name_is ts a.0 a.1 ∙ ap (λ (u : List ℕ). name u ∷ a.0.1) t.0 ∙ ap (λ (u : List Token). name b.0 ∷ u) (mark_is Comma a.0.1 d.0 d.1) in
     subst (λ (y : List ℕ × List Token). (ts ≡ name y.0 ∷ mark Comma ∷ y.1) × (length y.0 ≤ 64)) (some_is (b.0, d.0) x d.2) (whole, subst (λ (u : List ℕ). length u ≤ 64) t.0 t.1)
 
-chain_sound : (n : ℕ) (value : Reader Body) → Sound (values n) value → (form : Side) (ts : List Token) (x : Body × List Token)
-    → (chain_head_at form ts >>= λ h. around_at h.0 2 value h.1) ≡ Some x → IsForm n (word.Chain form) ts x
-chain_sound n value sound form ts x e rest closes =
-    let a = bind_some (chain_head_at form ts) (λ h. around_at h.0 2 value h.1) x e in
-    let b = bind_some (builder_at ts) (λ b. Some (head.Chain form b.0, b.1)) a.0 a.1 in
-    let t = builder_is ts b.0 b.1 in
-    let q : (head.Chain form b.0.0, b.0.1) ≡ a.0 = some_is (head.Chain form b.0.0, b.0.1) a.0 b.2 in
-    let after : around_at (head.Chain form b.0.0) 2 value b.0.1 ≡ Some x = ap (λ (y : WrittenForm × List Token). around_at y.0 2 value y.1) q ∙ a.2 in
-    let s = two_sound n (head.Chain form b.0.0) value sound b.0.1 x after in
-    let deep : suc (max (depth s.first) (depth s.second)) ≤ suc n = omega (arith, s.deep) in
-    record {
-      tree = Chain form b.0.0 s.first s.second;
-      text = ap (opened (chain_word form)) (t.0 ∙ ap (λ (u : List Token). name b.0.0 ∷ mark Comma ∷ u) (s.text rest closes));
-      means = s.means;
-      proper = ((t.1, s.proper.0, s.proper.1), deep);
-    }
-
 expression_sound : (n : ℕ) (value : Reader Body) → Sound (values n) value → (ts : List Token) (x : Body × List Token)
     → (expression_head_at ts >>= λ h. around_at h.0 1 value h.1) ≡ Some x → IsForm n word.Expression ts x
 expression_sound n value sound ts x e rest closes =
@@ -342,6 +325,39 @@ build_sound n value sound ts x e rest closes =
     let after : around_at form 1 value d.0.1 ≡ Some x = ap (λ (y : WrittenForm × List Token). around_at y.0 1 value y.1) q ∙ a.2 in
     let s = one_sound n form value sound d.0.1 x after in
     subst (λ (us : List Token). Reads (values (suc n)) (opened (codes "build") us) (x.0, rest)) (sym t.0) (built_sound n b.0.0 b.0.1 d.0 x t.1 (symbol_sound b.0.1 d.0 d.1) s rest closes)
+
+-- the same of a chain, with its operand and separator
+chained_sound : (n : ℕ) (side : Side) (s : List ℕ) (ts : List Token) (y : List ℕ × List Token) (x : Body × List Token) → length s ≤ 64 → IsSymbol ts y
+    → IsTwo n (head.Chain side s y.0) y.1 x → (rest : List Token) → x.1 ≡ mark Close ∷ rest → Reads (values (suc n)) (opened (chain_word side) (name s ∷ mark Comma ∷ ts)) (x.0, rest)
+chained_sound n side s ts _ x short without v rest closes =
+    let deep : suc (max (depth v.first) (depth v.second)) ≤ suc n = omega (arith, v.deep) in
+    record {
+      tree = Chain side s v.first v.second;
+      text = ap (λ (u : List Token). opened (chain_word side) (name s ∷ mark Comma ∷ u)) (v.text rest closes);
+      means = v.means;
+      proper = ((short, v.proper.0, v.proper.1), deep);
+    }
+chained_sound n side s ts _ x short (with {s = symbol} brief) v rest closes =
+    let deep : suc (max (depth v.first) (depth v.second)) ≤ suc n = omega (arith, v.deep) in
+    record {
+      tree = Chain_symbol side s symbol v.first v.second;
+      text = ap (λ (u : List Token). opened (chain_word side) (name s ∷ mark Comma ∷ literal symbol ∷ mark Comma ∷ u)) (v.text rest closes);
+      means = v.means;
+      proper = ((short, brief, v.proper.0, v.proper.1), deep);
+    }
+
+chain_sound : (n : ℕ) (value : Reader Body) → Sound (values n) value → (side : Side) (ts : List Token) (x : Body × List Token)
+    → (chain_head_at side ts >>= λ h. around_at h.0 2 value h.1) ≡ Some x → IsForm n (word.Chain side) ts x
+chain_sound n value sound side ts x e rest closes =
+    let a = bind_some (chain_head_at side ts) (λ h. around_at h.0 2 value h.1) x e in
+    let b = bind_some (builder_at ts) (λ b. symbol_at b.1 >>= λ d. Some (head.Chain side b.0 d.0, d.1)) a.0 a.1 in
+    let d = bind_some (symbol_at b.0.1) (λ d. Some (head.Chain side b.0.0 d.0, d.1)) a.0 b.2 in
+    let t = builder_is ts b.0 b.1 in
+    let form = head.Chain side b.0.0 d.0.0 in
+    let q : (form, d.0.1) ≡ a.0 = some_is (form, d.0.1) a.0 d.2 in
+    let after : around_at form 2 value d.0.1 ≡ Some x = ap (λ (y : WrittenForm × List Token). around_at y.0 2 value y.1) q ∙ a.2 in
+    let s = two_sound n form value sound d.0.1 x after in
+    subst (λ (us : List Token). Reads (values (suc n)) (opened (chain_word side) us) (x.0, rest)) (sym t.0) (chained_sound n side b.0.0 b.0.1 d.0 x t.1 (symbol_sound b.0.1 d.0 d.1) s rest closes)
 
 label_sound : (n : ℕ) (value : Reader Body) → Sound (values n) value → (ts : List Token) (x : Body × List Token) → label_at value ts ≡ Some x → IsForm n word.Label ts x
 label_sound n value sound ts x e =

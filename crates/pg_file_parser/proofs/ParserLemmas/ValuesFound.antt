@@ -9,7 +9,7 @@ use Rattle.pg_file_tokens.specs.declared.token.Mark.TheVariants.{Close, Comma}
 use Rattle.pg_file_items.specs.declared.words.FormWord.{FormWord}
 use Rattle.pg_file_items.specs.declared.words.FormWord.TheVariants as word
 use Rattle.pg_file_tokens.specs.Tokens.{Token, name, literal, mark}
-use Rattle.pg_file_items.specs.Tree.{Value, Of_class, String, Seq, Of_some, Of_one, Of_two, Between, Chain, Expression, Build, Build_symbol, Label, End_of_text, Word, Rule, Values, No_value, And}
+use Rattle.pg_file_items.specs.Tree.{Value, Of_class, String, Seq, Of_some, Of_one, Of_two, Between, Chain, Chain_symbol, Expression, Build, Build_symbol, Label, End_of_text, Word, Rule, Values, No_value, And}
 use Rattle.pg_file_items.specs.Syntax.{class_written, opened, written, written_list, written_more}
 use Rattle.pg_file_items.specs.Proper.{IsProper, AreProper}
 use Rattle.pg_file_items.specs.Depth.{class_depth, depth, depths}
@@ -39,6 +39,7 @@ mutual
     longer w (mark Close ∷ rest),
   )
   longer (Chain form builder v w) rest = omega (arith, longer v (mark Comma ∷ written w (mark Close ∷ rest)), longer w (mark Close ∷ rest))
+  longer (Chain_symbol form builder symbol v w) rest = omega (arith, longer v (mark Comma ∷ written w (mark Close ∷ rest)), longer w (mark Close ∷ rest))
   longer (Expression infixes prefixes postfixes v) rest = omega (arith, longer v (mark Close ∷ rest))
   longer (Build builder v) rest = omega (arith, longer v (mark Close ∷ rest))
   longer (Build_symbol builder symbol v) rest = omega (arith, longer v (mark Close ∷ rest))
@@ -66,6 +67,7 @@ not_closed (Of_one form v) rest = refl
 not_closed (Of_two form v w) rest = refl
 not_closed (Between u v w) rest = refl
 not_closed (Chain form builder v w) rest = refl
+not_closed (Chain_symbol form builder symbol v w) rest = refl
 not_closed (Expression infixes prefixes postfixes v) rest = refl
 not_closed (Build builder v) rest = refl
 not_closed (Build_symbol builder symbol v) rest = refl
@@ -83,6 +85,7 @@ no_symbol (Of_one form v) rest = refl
 no_symbol (Of_two form v w) rest = refl
 no_symbol (Between u v w) rest = refl
 no_symbol (Chain form builder v w) rest = refl
+no_symbol (Chain_symbol form builder symbol v w) rest = refl
 no_symbol (Expression infixes prefixes postfixes v) rest = refl
 no_symbol (Build builder v) rest = refl
 no_symbol (Build_symbol builder symbol v) rest = refl
@@ -184,7 +187,10 @@ form_complete n class classed value complete (Between u v w) rest p d =
     (three_read n head.Between value complete u v w rest p.0 p.1 p.2 (less (max (depth u) (max (depth v) (depth w))) n d))
 form_complete n class classed value complete (Chain form builder v w) rest p d =
     opened_read (form_at class value) (word.Chain form) (name builder ∷ mark Comma ∷ written v (mark Comma ∷ written w (mark Close ∷ rest))) rest _
-    (rw (short_name_found builder p.0) (two_read n (head.Chain form builder) value complete v w rest p.1 p.2 (less (max (depth v) (depth w)) n d)))
+    (rw (short_name_found builder p.0, no_symbol v (mark Comma ∷ written w (mark Close ∷ rest))) (two_read n (head.Chain form builder []) value complete v w rest p.1 p.2 (less (max (depth v) (depth w)) n d)))
+form_complete n class classed value complete (Chain_symbol form builder symbol v w) rest p d =
+    opened_read (form_at class value) (word.Chain form) (name builder ∷ mark Comma ∷ literal symbol ∷ mark Comma ∷ written v (mark Comma ∷ written w (mark Close ∷ rest))) rest _
+    (rw (short_name_found builder p.0, literal_text_found symbol p.1) (two_read n (head.Chain form builder symbol) value complete v w rest p.2 p.3 (less (max (depth v) (depth w)) n d)))
 form_complete n class classed value complete (Expression infixes prefixes postfixes v) rest p d =
     opened_read (form_at class value) word.Expression (name infixes ∷ mark Comma ∷ name prefixes ∷ mark Comma ∷ name postfixes ∷ mark Comma ∷ written v (mark Close ∷ rest)) rest _
     (rw (short_name_found infixes p.0, short_name_found prefixes p.1, short_name_found postfixes p.2) (one_read n (head.Expression infixes prefixes postfixes) value complete v rest p.3 (less (depth v) n d)))
@@ -216,6 +222,7 @@ value_complete zero (Of_one form v) rest e p = absurd (none (depth v) p.1)
 value_complete zero (Of_two form v w) rest e p = absurd (none (max (depth v) (depth w)) p.1)
 value_complete zero (Between u v w) rest e p = absurd (none (max (depth u) (max (depth v) (depth w))) p.1)
 value_complete zero (Chain form builder v w) rest e p = absurd (none (max (depth v) (depth w)) p.1)
+value_complete zero (Chain_symbol form builder symbol v w) rest e p = absurd (none (max (depth v) (depth w)) p.1)
 value_complete zero (Expression infixes prefixes postfixes v) rest e p = absurd (none (depth v) p.1)
 value_complete zero (Build builder v) rest e p = absurd (none (depth v) p.1)
 value_complete zero (Build_symbol builder symbol v) rest e p = absurd (none (depth v) p.1)

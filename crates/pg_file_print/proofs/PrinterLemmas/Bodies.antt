@@ -12,6 +12,7 @@ use Rattle.pg_grammar_form.specs.declared.class.ClassPart.{ClassPart}
 use Rattle.pg_grammar_form.specs.declared.form.Form.TheVariants as form
 use Rattle.pg_grammar_form.specs.declared.form.Leaf.TheVariants as leaf
 use Rattle.pg_grammar_form.specs.declared.form.Around.TheVariants as around
+use Rattle.pg_grammar_form.specs.declared.side.Side.{Side}
 use Rattle.pg_file_items.specs.declared.words.ClassForm.{ClassForm}
 use Rattle.pg_file_items.specs.declared.words.ClassForm.TheVariants as class_form
 use Rattle.pg_file_tokens.specs.declared.token.Mark.TheVariants.{Close, Comma}
@@ -19,8 +20,8 @@ use Rattle.pg_file_print.specs.declared.levels.Ending.TheVariants.{Nothing}
 use Rattle.pg_file_print.specs.declared.levels.Level.{Level}
 use Rattle.pg_file_tokens.specs.Tokens.{Token, mark}
 use Rattle.pg_file_items.specs.Tree.{Value, Of_class}
-use Rattle.pg_file_items.specs.Syntax.{written, written_list, written_more, class_word, opened}
-use Rattle.pg_file_print.specs.Canonical.{class_from, class_names, values_from, choice_from, build_from, value_at, value_of_form, values_of}
+use Rattle.pg_file_items.specs.Syntax.{written, written_list, written_more, class_word, chain_word, opened}
+use Rattle.pg_file_print.specs.Canonical.{class_from, class_names, values_from, choice_from, build_from, chain_from, value_at, value_of_form, values_of}
 use Rattle.pg_file_print.specs.Levels.{closing, entered, coming, needed, base_piece, class_piece, builder_tokens, levels_after, node_forms, node_values, node_piece, AreBodies}
 use Rattle.pg_file_print.proofs.PrinterLemmas.Nested.{after, between, IsWrittenBy, step_counted, entered_needed, drop_needed}
 use Rattle.pg_file_print.proofs.PrinterLemmas.Writing.{class_front}
@@ -51,6 +52,11 @@ build_written : (builder symbol : List ℕ) (v : Value) (rest : List Token) → 
 build_written builder [] v rest = refl
 build_written builder (c ∷ symbol) v rest = refl
 
+chain_written : (side : Side) (builder symbol : List ℕ) (v w : Value) (rest : List Token) → written (chain_from side builder symbol v w) rest
+    ≡ opened (chain_word side) (builder_tokens builder symbol) ++ written v (mark Comma ∷ written w (mark Close ∷ rest))
+chain_written side builder [] v w rest = refl
+chain_written side builder (c ∷ symbol) v w rest = refl
+
 form_written : (items : List names.Name) (form : BaseForm) (vs : List Value) → part_count form ≤ length vs → lacks_alternative form ≡ false
     → IsWrittenBy written (base_piece items form) (value_of_form items form (take (part_count form) vs)) vs
 form_written items (form.Leaf (leaf.Satisfy class)) vs h e rest = class_of_form class_form.Satisfy items class vs rest
@@ -62,7 +68,7 @@ form_written items (form.Choice n) vs h e rest = choice_written items n vs h e r
 form_written items (form.Rule s) vs h e rest = refl
 form_written items _ [] h e rest = absurd (omega (arith, h))
 form_written items (form.Chain side used operand separator) (v ∷ []) h e rest = absurd (omega (arith, h))
-form_written items (form.Chain side used operand separator) (v ∷ w ∷ vs) h e rest = refl
+form_written items (form.Chain side used operand separator) (v ∷ w ∷ vs) h e rest = chain_written side (chars used.name) (chars used.symbol) v w rest
 form_written items (form.Around (around.Build used symbol) part) (v ∷ vs) h e rest = build_written (chars used.name) (chars symbol) v rest
 form_written items _ (v ∷ vs) h e rest = refl
 

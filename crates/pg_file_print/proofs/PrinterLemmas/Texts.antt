@@ -15,7 +15,7 @@ use Rattle.pg_file_items.specs.declared.words.SomeForm.{SomeForm}
 use Rattle.pg_file_items.specs.declared.words.OneForm.{OneForm}
 use Rattle.pg_file_items.specs.declared.words.TwoForm.{TwoForm}
 use Rattle.pg_grammar_form.specs.declared.side.Side.{Side}
-use Rattle.pg_file_items.specs.Tree.{Atom, Set, Range, Name, Not, Group, Class, Of, Atoms, No_atom, Or, Value, Of_class, String, Seq, Of_some, Of_one, Of_two, Between, Chain, Expression, Build, Build_symbol, Label, End_of_text, Word, Rule, Values, No_value, And, Item, Class_item, Word_item, Operators, Table, Start, Rule_item}
+use Rattle.pg_file_items.specs.Tree.{Atom, Set, Range, Name, Not, Group, Class, Of, Atoms, No_atom, Or, Value, Of_class, String, Seq, Of_some, Of_one, Of_two, Between, Chain, Chain_symbol, Expression, Build, Build_symbol, Label, End_of_text, Word, Rule, Values, No_value, And, Item, Class_item, Word_item, Operators, Table, Start, Rule_item}
 use Rattle.pg_file_items.specs.Syntax.{class_word, some_word, one_word, two_word, chain_word, atom_written, class_written, atoms_written, opened, written, written_list, written_more, literals_written, reserved_written, most_written, item_written, file_written}
 use Rattle.pg_file_print.specs.declared.layout.Edge.{Edge}
 use Rattle.pg_file_print.specs.declared.layout.Edge.TheVariants as edge
@@ -181,6 +181,18 @@ mutual
       ∙ ap (λ (t : List ℕ). codes " " ++ t)
       (more_laid (value_text operand) (value_text separator) (written separator (mark Close ∷ rest)) rest (value_edge operand)
       (value_laid edge.Loose separator (mark Close ∷ rest)))))
+  value_laid e (Chain_symbol side builder symbol operand separator) rest =
+      let tokens = mark Comma ∷ written separator (mark Close ∷ rest) in
+      let values = with_more (value_text operand) (value_text separator) in
+      form_laid e (chain_word side) (with_more builder (with_more (quoted symbol) values)) (name builder ∷ mark Comma ∷ literal symbol ∷ mark Comma ∷ written operand tokens) rest
+      (chain_plain side)
+      (more_laid builder (with_more (quoted symbol) values) (literal symbol ∷ mark Comma ∷ written operand tokens) rest (edge_after (name builder))
+      (ap (λ (t : List ℕ). codes " " ++ t)
+      (more_laid (quoted symbol) values (written operand tokens) rest edge.Loose
+      (value_laid edge.Loose operand tokens
+      ∙ ap (λ (t : List ℕ). codes " " ++ t)
+      (more_laid (value_text operand) (value_text separator) (written separator (mark Close ∷ rest)) rest (value_edge operand)
+      (value_laid edge.Loose separator (mark Close ∷ rest)))))))
   value_laid e (Expression infixes prefixes postfixes term) rest =
       let last = written term (mark Close ∷ rest) in
       form_laid e (codes "expr") (with_more infixes (with_more prefixes (with_more postfixes (value_text term))))

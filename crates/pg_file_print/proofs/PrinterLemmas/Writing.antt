@@ -2,7 +2,7 @@
 use Rattle.std.proofs.Common.{◌≡◌, List, [], ◌∷◌, ◌++◌, Option, Some, None, ℕ, codes, refl, sym, ap, ◌∙◌}
 use Rattle.pg_file_tokens.specs.declared.token.Mark.TheVariants.{Close, Comma, Semicolon}
 use Rattle.pg_file_tokens.specs.Tokens.{Token, name, literal, mark}
-use Rattle.pg_file_items.specs.Tree.{Atom, Set, Range, Name, Not, Group, Class, Of, Atoms, No_atom, Or, Value, Of_class, String, Seq, Of_some, Of_one, Of_two, Between, Chain, Expression, Build, Build_symbol, Label, End_of_text, Word, Rule, Values, No_value, And, Item, Class_item, Word_item, Operators, Table, Start, Rule_item}
+use Rattle.pg_file_items.specs.Tree.{Atom, Set, Range, Name, Not, Group, Class, Of, Atoms, No_atom, Or, Value, Of_class, String, Seq, Of_some, Of_one, Of_two, Between, Chain, Chain_symbol, Expression, Build, Build_symbol, Label, End_of_text, Word, Rule, Values, No_value, And, Item, Class_item, Word_item, Operators, Table, Start, Rule_item}
 use Rattle.pg_file_items.specs.Syntax.{atom_written, class_written, atoms_written, written, written_list, written_more, literals_written, reserved_written, most_written, item_written, file_written}
 use Rattle.pg_file_print.specs.Layout.{Laid, with_token, with_tokens}
 use Rattle.pg_file_print.proofs.PrinterLemmas.Tokens.{laid_both}
@@ -41,6 +41,8 @@ mutual
       ∙ value_front before (mark Comma ∷ written following (mark Comma ∷ written inner (mark Close ∷ xs))) ys))
   value_front (Chain form builder operand separator) xs ys =
       one _ (one _ (one _ (one _ (ap (λ (ts : List Token). written operand (mark Comma ∷ ts)) (value_front separator (mark Close ∷ xs) ys) ∙ value_front operand (mark Comma ∷ written separator (mark Close ∷ xs)) ys))))
+  value_front (Chain_symbol form builder symbol operand separator) xs ys =
+      one _ (one _ (one _ (one _ (one _ (one _ (ap (λ (ts : List Token). written operand (mark Comma ∷ ts)) (value_front separator (mark Close ∷ xs) ys) ∙ value_front operand (mark Comma ∷ written separator (mark Close ∷ xs)) ys))))))
   value_front (Expression infixes prefixes postfixes term) xs ys = one _ (one _ (one _ (one _ (one _ (one _ (one _ (one _ (value_front term (mark Close ∷ xs) ys))))))))
   value_front (Build builder v) xs ys = one _ (one _ (one _ (one _ (value_front v (mark Close ∷ xs) ys))))
   value_front (Build_symbol builder symbol v) xs ys = one _ (one _ (one _ (one _ (one _ (one _ (value_front v (mark Close ∷ xs) ys))))))

@@ -1,4 +1,4 @@
-use Rattle.pg_machine_quick.proofs.ReadSo.{satisfy_at, not_followed_at, string_at, end_at, word_node_at}
+use Rattle.pg_machine_quick.proofs.ReadSo.{satisfy_at, not_followed_at, string_at, end_at, word_node_at, declaration_node_at}
 use Rattle.pg_machine_quick.proofs.reading.reading_at.Goals as goal
 
 pub returns-in-Satisfy : goal.returns-in-Satisfy
@@ -24,3 +24,7 @@ returns-in-EndOfText c = λ table.
 pub returns-in-Word : goal.returns-in-Word
 returns-in-Word c = word_node_at c.args.grammar.now c.args.text.now c.args.place c.in-Word.number c.args.node.now c.in_ok-characters.field-0.now c.word.result
     c.in_ok-characters.ensures c.in-Word.is c.word.ensures
+
+pub returns-in-Declare : goal.returns-in-Declare
+returns-in-Declare c = declaration_node_at c.args.grammar.now c.args.text.now c.args.id c.args.place c.args.node.now c.in_ok-characters.field-0.now c.in-Declare.field-0 c.undeclared.result
+    c.requires c.in_ok-characters.ensures c.in-Declare.is c.undeclared.ensures

@@ -90,14 +90,6 @@ returns-in-None-take_first g c =
     c.in-Some.ensures.items c.in-First.is c.frames.view_is c.in-None-take_first.ensures.none c.take_first.ensures.others in
     turn_by_top (given_of c.args.context.given) c.args.reply m.frames _ on_rule m.lists.forest m.lists.trail.items m.lists.messages m.table is
 
-pub hand_to_separator-requires : goal.hand_to_separator-requires
-hand_to_separator-requires g c =
-    let l = c.frames.inside in
-    let is = taken l.kinds.items c.pop.new.self.items c.in-Some.kind kind.Separator (by_kind l.lists) (by_kind c.take_separator.new.self) (frame_of (frame.Separator c.in-Some-take_separator.links)) c.args.self.now.frames
-    c.in-Some.ensures.items c.in-Separator.is c.frames.view_is c.in-Some-take_separator.ensures.some c.take_separator.ensures.others in
-    let ready = top_ready (offer_of c.args.context.registry.now) c.args.context.given.grammar.now (2 ^ 64 - 1) c.args.self.now.frames _ (frame_of (frame.Separator c.in-Some-take_separator.links)) is c.requires in
-    ready.1
-
 pub returns-in-Some-take_separator : goal.returns-in-Some-take_separator
 returns-in-Some-take_separator g c =
     let m = c.args.self.now in
@@ -115,21 +107,13 @@ returns-in-None-take_separator g c =
     c.in-Some.ensures.items c.in-Separator.is c.frames.view_is c.in-None-take_separator.ensures.none c.take_separator.ensures.others in
     turn_by_top (given_of c.args.context.given) c.args.reply m.frames _ on_rule m.lists.forest m.lists.trail.items m.lists.messages m.table is
 
-pub hand_to_operand-requires-clause-room : goal.hand_to_operand-requires-clause-room
-hand_to_operand-requires-clause-room g c =
+pub hand_to_operand-requires : goal.hand_to_operand-requires
+hand_to_operand-requires g c =
     let l = c.frames.inside in
     let is = taken l.kinds.items c.pop.new.self.items c.in-Some.kind kind.Operand (by_kind l.lists) (by_kind c.take_operand.new.self) (frame_of (frame.Operand c.in-Some-take_operand.operand)) c.args.self.now.frames
     c.in-Some.ensures.items c.in-Operand.is c.frames.view_is c.in-Some-take_operand.ensures.some c.take_operand.ensures.others in
     let ready = top_ready (offer_of c.args.context.registry.now) c.args.context.given.grammar.now (2 ^ 64 - 1) c.args.self.now.frames _ (frame_of (frame.Operand c.in-Some-take_operand.operand)) is c.requires in
-    ready.0
-
-pub hand_to_operand-requires-clause-offered : goal.hand_to_operand-requires-clause-offered
-hand_to_operand-requires-clause-offered g c =
-    let l = c.frames.inside in
-    let is = taken l.kinds.items c.pop.new.self.items c.in-Some.kind kind.Operand (by_kind l.lists) (by_kind c.take_operand.new.self) (frame_of (frame.Operand c.in-Some-take_operand.operand)) c.args.self.now.frames
-    c.in-Some.ensures.items c.in-Operand.is c.frames.view_is c.in-Some-take_operand.ensures.some c.take_operand.ensures.others in
-    let ready = top_ready (offer_of c.args.context.registry.now) c.args.context.given.grammar.now (2 ^ 64 - 1) c.args.self.now.frames _ (frame_of (frame.Operand c.in-Some-take_operand.operand)) is c.requires in
-    ready.1
+    ready
 
 pub returns-in-Some-take_operand : goal.returns-in-Some-take_operand
 returns-in-Some-take_operand g c =

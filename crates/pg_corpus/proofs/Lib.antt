@@ -1,0 +1,5 @@
+pub mod Cutting
+pub mod Parts
+pub mod Reading
+pub mod Updating
+pub mod Apart

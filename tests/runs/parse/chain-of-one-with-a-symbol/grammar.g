@@ -1,0 +1,1 @@
+start chain; chain = chainl1(node, "minus", satisfy(digit), skip(string("-")));

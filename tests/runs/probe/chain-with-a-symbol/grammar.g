@@ -1,0 +1,1 @@
+start s; s = chainl1(node, "or", satisfy(letter), skip(string("|")));

@@ -1,0 +1,3 @@
+start a;
+a = chainl1(node, "s", b, string(","));
+b = seq(satisfy(digit), option(string("!")));

@@ -1,0 +1,1 @@
+start a; a = char("x");

@@ -1,0 +1,3 @@
+start a;
+a = choice(a, string("x"));
+b = many(option(string("x")));

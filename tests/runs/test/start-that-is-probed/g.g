@@ -1,0 +1,3 @@
+start a;
+a = seq(b, string("x"));
+b = many(seq(eof, string("y")));

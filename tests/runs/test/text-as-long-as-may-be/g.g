@@ -1,0 +1,2 @@
+start a;
+a = skip(many(satisfy("7")));
