@@ -35,6 +35,9 @@ SUITES = {
     "long_texts": ["0", "100"],
     "plans": ["0", "150"],
     "level": [],
+    "editor/session": ["1000", "200"],
+    "editor/answers": ["0", "40"],
+    "editor/neovim": [],
     "refused_memory": ["7"],
     "slow_files": ["7"],
 }

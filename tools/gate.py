@@ -3,7 +3,8 @@
 
 usage: tools/gate.py
 
-Where there is no GHC, by which modules are compared with the real library, apt-get installs it first, and the gate fails if it can't.
+Where there is no GHC, by which modules are compared with the real library, or no Neovim, which tries the server for editors, apt-get installs it first, and the gate fails
+if it can't.
 The last line is one sum of both, 'N passed, M failed', and the status is 1 if anything failed.
 """
 
@@ -18,18 +19,23 @@ sys.path.insert(0, HERE)
 from sums import Sums, python
 
 
-def install_ghc(sums):
-    """Installs GHC where it is missing."""
-    for words in (["apt-get", "-q", "update"], ["apt-get", "-q", "install", "-y", "--no-install-recommends", "ghc"]):
-        if not shutil.which("ghc"):
+# What is installed where it is missing: the program, and its package.
+PACKAGES = {"ghc": "ghc", "nvim": "neovim"}
+
+
+def install(sums, program, package):
+    """Installs a package where its program is missing."""
+    for words in (["apt-get", "-q", "update"], ["apt-get", "-q", "install", "-y", "--no-install-recommends", package]):
+        if not shutil.which(program):
             subprocess.run(words, env={**os.environ, "DEBIAN_FRONTEND": "noninteractive"}, stdin=subprocess.DEVNULL, stdout=subprocess.DEVNULL, check=False)
-    if not shutil.which("ghc"):
-        sums.fail("there is no ghc, and apt-get can't install it")
+    if not shutil.which(program):
+        sums.fail(f"there is no {program}, and apt-get can't install it")
 
 
 def main():
     sums = Sums()
-    install_ghc(sums)
+    for program, package in PACKAGES.items():
+        install(sums, program, package)
     for name in ("tests/all", "tools/prove.py"):
         sums.run(name, python(f"{os.path.dirname(HERE)}/{name}"))
     return sums.end()

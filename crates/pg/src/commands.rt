@@ -12,6 +12,7 @@ mod cost;
 mod explain;
 mod lines;
 mod listing;
+mod lsp;
 mod parse;
 mod places;
 mod probe;
@@ -21,6 +22,7 @@ mod test;
 
 use crate::commands::check::{Checking, check_files};
 use crate::commands::explain::explain_file;
+use crate::commands::lsp::serve_editor;
 use crate::commands::parse::parse_files;
 use crate::commands::probe::{Probing, probe_files};
 use crate::commands::replay::replay_files;
@@ -122,5 +124,6 @@ fn answer<R: AllocGlobal + Files + Input + Print + Eprint>(
         Request::Print { grammar } => print_file(rt, grammar, registry),
         Request::Sets { grammar } => show_file(rt, grammar, registry),
         Request::Haskell { grammar, module } => translate_file(rt, grammar, registry, module),
+        Request::Lsp => serve_editor(rt.rt, registry),
     }
 }

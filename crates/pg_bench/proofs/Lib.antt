@@ -6,3 +6,4 @@ pub mod Replayed
 pub mod Watched
 pub mod QuickForest
 pub mod PiecesLemmas
+pub mod RefusedTexts

@@ -25,7 +25,7 @@ use Rattle.pg_bench.specs.Promise.{HasForestOfText, most_steps}
 use Rattle.pg_bench.proofs.Parses.{found_forest}
 
 -- nothing is wrong with a checked grammar, and the text is one of characters
-accepts : (checked : GrammarWithSets) (text : List ℕ) → IsChecked checked → IsGrammar checked.grammar → all_scalars text ≡ true
+pub accepts : (checked : GrammarWithSets) (text : List ℕ) → IsChecked checked → IsGrammar checked.grammar → all_scalars text ≡ true
     → Accepts (given Library checked.grammar text) checked.sets
 accepts checked text is grammar scalars = record { grammar = grammar; least = is.sets; faultless = is.faultless; text = scalars }
 

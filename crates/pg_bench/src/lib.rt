@@ -21,6 +21,7 @@ mod parse;
 mod pieces;
 mod probe;
 mod quick;
+mod refused;
 mod replay;
 mod showing;
 #[cfg(test)]

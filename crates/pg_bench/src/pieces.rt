@@ -16,6 +16,7 @@ use crate::input::{read_text, text_of};
 use crate::outcome_page::json_page;
 use crate::parse::{Parse, after_forest, parse_of_text};
 use crate::quick::{ForestParse, quick_parse};
+use crate::refused::unplanned_refusal;
 use pg_bench_grammar::{AcceptedGrammar, BenchFault};
 use pg_pred::Registry;
 use pg_text::{LIMIT, Text};
@@ -131,8 +132,27 @@ fn bare_pieces(
 {
     match quick_parse(alloc, accepted, text) {
         Ok(Some(parse)) => pieces_of_forest(alloc, parse, with_json),
-        Ok(None) => all_pieces(alloc, accepted, registry, text, with_json, false),
+        Ok(None) => unplanned_pieces(alloc, accepted, registry, text, with_json),
         Err(_) => Err(BenchFault::Memory),
+    }
+}
+
+/// Those of a text whose trail isn't wanted, and of which no plan said anything.
+fn unplanned_pieces(
+    alloc: Global,
+    accepted: &AcceptedGrammar,
+    registry: &Registry,
+    text: &Text,
+    with_json: bool,
+) -> Result<Pieces, BenchFault>
+    requires fits { Fits (offer_of registry.now) accepted.now.checked.grammar }
+    requires table { initial accepted.now.checked.grammar ≡ whole accepted.now.table }
+    ensures ok { IfOk result (λ p. AreJsonPieces (IsForestOfText accepted.now.checked.grammar text.now) with_json false p.json.items p.rest.items p.done) }
+    ensures err { IfErr result (IsRunRefusal accepted.now.checked.grammar text.now) }
+{
+    match unplanned_refusal(alloc, accepted, registry, text) {
+        Ok(()) => all_pieces(alloc, accepted, registry, text, with_json, false),
+        Err(fault) => Err(fault),
     }
 }
 

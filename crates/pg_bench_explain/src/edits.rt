@@ -15,14 +15,14 @@ use std::alloc::{AllocError, Global};
 
 /// The characters of a file that are replaced, and what replaces them. There are none until the edit has begun.
 #[derive(Drop)]
-struct Edit<'e> {
+pub(crate) struct Edit<'e> {
     /// The characters of the file.
     file: &'e [char],
     /// The items of the change that aren't put into the text yet.
     items: &'e [String],
-    is_begun: bool,
-    span: Span,
-    text: String,
+    pub(crate) is_begun: bool,
+    pub(crate) span: Span,
+    pub(crate) text: String,
 }
 
 impl<'e> Edit<'e> {
@@ -121,7 +121,7 @@ fn push_cure(
 }
 
 /// The edit for a change.
-fn edit_of<'e>(
+pub(crate) fn edit_of<'e>(
     alloc: Global,
     loaded: &'e LoadedFile,
     cure: &'e Cure,
@@ -207,7 +207,7 @@ fn with_line_feed(file: &[char], span: Span) -> Span {
 }
 
 /// The words about a change: what it is, and its effects.
-fn said_of(alloc: Global, cure: &Cure) -> Result<String, AllocError> {
+pub(crate) fn said_of(alloc: Global, cure: &Cure) -> Result<String, AllocError> {
     let words = cure.change.words();
     let then = if cure.accepted {
         "the grammar is accepted"

@@ -106,7 +106,7 @@ fn told_with_texts(
 }
 
 /// For each section the field of a text that shows its finding, and the texts that the grammar derives.
-fn witnesses_of(
+pub(crate) fn witnesses_of(
     alloc: Global,
     file: &RefusedFile<'_>,
     sections: &[Section],

@@ -14,7 +14,7 @@ const MOST_STEPS: i64 = 1_000_000_000;
 const USUAL_STEPS: u64 = 1_000_000;
 
 /// The version, and the toolchain that proved it.
-const VERSION: &str = "0.8.0 (proved by rattle-kit-13f)";
+pub const VERSION: &str = "0.8.0 (proved by rattle-kit-13f)";
 
 /// The help of a word that names a file.
 const GRAMMAR: &str = "The grammar file, or - for standard input";
@@ -80,6 +80,12 @@ const HELP_OF_TEST: &str =
     "Exit status: 0 every case passed, 1 findings or a case that failed, 2 trouble (arguments or files that can't be used), 3 out of memory
 
 Example: pgw test examples/call.g examples/call.corpus";
+
+const HELP_OF_LSP: &str =
+    "Exit status: 0 ended by shutdown and exit, 1 exit without shutdown or the end of input without exit,
+2 bytes that are no message, or output that can't be written, 3 out of memory
+
+Example: pgw lsp < examples/session.lsp";
 
 /// The name of a Haskell module if none is given (ours).
 const USUAL_MODULE: &str = "Grammar";
@@ -227,6 +233,8 @@ pub enum Request<'m, 'a> {
         grammar: &'a str,
         module: &'a str,
     },
+    /// Serve an editor over standard input and output.
+    Lsp,
 }
 
 /// The program's command line. Its texts call the program `pgw`, whatever its file is called. Fails where memory runs out.
@@ -268,7 +276,8 @@ fn with_printing_commands<'a>(
 ) -> Result<Command<'a>, AllocError> {
     let program = with_command(program, print_command(alloc));
     let program = with_command(program, sets_command(alloc));
-    with_command(program, haskell_command(alloc))
+    let program = with_command(program, haskell_command(alloc));
+    with_command(program, lsp_command(alloc))
 }
 
 /// Adds a command, if there was memory for both. The calls that add commands can't fail, which keeps the proofs there short.
@@ -602,6 +611,12 @@ fn haskell_command<'a>(alloc: Global) -> Result<Command<'a>, AllocError> {
     with_arg(command, file(alloc, "grammar", GRAMMAR))
 }
 
+/// Its result is what it says to the editor, so it can't be quiet.
+fn lsp_command<'a>(alloc: Global) -> Result<Command<'a>, AllocError> {
+    let about = "Serves an editor, by the Language Server Protocol over standard input and output";
+    Ok(bare(alloc, "lsp", about, HELP_OF_LSP))
+}
+
 /// The word that names a module.
 fn module<'a>(alloc: Global) -> Arg<'a> {
     Arg::new(alloc, "module")
@@ -646,6 +661,7 @@ pub fn request_of<'m, 'a>(matches: &'m ArgMatches<'a>) -> Option<Request<'m, 'a>
         "print" => print_request(found),
         "sets" => sets_request(found),
         "haskell" => haskell_request(found),
+        "lsp" => Some(Request::Lsp),
         _ => None,
     }
 }

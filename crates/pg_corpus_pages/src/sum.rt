@@ -1,7 +1,7 @@
 //! How many cases passed.
 
 use pg_corpus_judging::Trial;
-use std::alloc::{AllocError, Global};
+use std::fmt;
 
 /// How many cases passed, and how many didn't.
 #[derive(Clone, Copy)]
@@ -26,10 +26,11 @@ impl Sum {
             Trial::Failed(_) | Trial::Untried(_) => self.failed = self.failed.saturating_add(1),
         }
     }
+}
 
-    /// The sum as a line.
-    pub fn line(&self, alloc: Global) -> Result<String, AllocError> {
+impl fmt::Display for Sum {
+    fn fmt<W: fmt::Write>(&self, f: &mut fmt::Formatter<W>) -> fmt::Result {
         let Sum { passed, failed } = *self;
-        format!(in alloc; "{passed} passed, {failed} failed\n")
+        write!(f, "{passed} passed, {failed} failed")
     }
 }

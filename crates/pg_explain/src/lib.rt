@@ -25,3 +25,4 @@ pub use pg_explain_context::GrammarFile;
 pub use pg_explain_recipes::Recipe;
 pub use quoted::push_quoted;
 pub use sections::{Explanation, Section, explain_findings};
+pub use words::start_words;

@@ -8,12 +8,8 @@ use pg_sets_own::ListedStart;
 use pg_start::StartKind;
 use std::alloc::{AllocError, Global};
 
-/// The start with this number, in words; empty if there is none.
-pub(crate) fn start_words(
-    alloc: Global,
-    known: &Known,
-    number: usize,
-) -> Result<String, AllocError> {
+/// The start with this number, in words; empty if there is none. Fails where memory runs out.
+pub fn start_words(alloc: Global, known: &Known, number: usize) -> Result<String, AllocError> {
     match known.start(number) {
         Some(listed) => words_of(alloc, known, number, listed),
         None => Ok(String::new(alloc)),

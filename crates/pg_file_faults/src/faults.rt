@@ -15,6 +15,9 @@ const MOST: usize = 10;
 /// The most times that a file is read again.
 const ROUNDS: usize = 40;
 
+/// The most bytes that a grammar file may have. A longer one is refused whatever else is wrong with it, and reading it forty times would take a minute.
+const FILE_LIMIT: usize = 262_144;
+
 /// A fault of a file.
 #[derive(Drop)]
 pub struct ToldFault {
@@ -26,7 +29,7 @@ pub struct ToldFault {
 
 /// The faults of a grammar file with these bytes, given the first, with which reading refuses it. At most ten are reported: faults of tokens before those of
 /// names, both in file order, and one for each item except for unknown names (ours). A fault that comes only from an item already reported isn't reported,
-/// and an unknown name is reported once.
+/// and an unknown name is reported once. Of a file with more than 262,144 bytes, which is too long for a grammar file, only the first is reported.
 pub fn faults_of(
     alloc: Global,
     bytes: &[u8],
@@ -63,13 +66,16 @@ fn with_first(
     Ok(told)
 }
 
-/// The faults after the first.
+/// The faults after the first. Of a file that is too long there are none, and of one that isn't UTF-8.
 fn others(
     alloc: Global,
     bytes: &[u8],
     registry: &Registry,
     first: &FileFault,
 ) -> Result<Vec<ToldFault>, AllocError> {
+    if bytes.len() > FILE_LIMIT {
+        return Ok(Vec::new(alloc));
+    }
     match str::from_utf8(bytes) {
         Ok(text) => further(alloc, text, registry, first),
         Err(_) => Ok(Vec::new(alloc)),

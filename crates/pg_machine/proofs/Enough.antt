@@ -13,7 +13,7 @@ use Rattle.pg_machine.specs.declared.answer.Answer.{Answer}
 use Rattle.pg_machine.specs.declared.answer.Outcome as ended
 use Rattle.pg_machine.specs.declared.answer.Outcome.TheVariants.{Answered}
 
-enough : (cost n : ℕ) → cost ≤ cost_limit → n ≤ 1048576 → cost * (n + 1) ≤ 2 ^ 64 - 1
+pub enough : (cost n : ℕ) → cost ≤ cost_limit → n ≤ 1048576 → cost * (n + 1) ≤ 2 ^ 64 - 1
 enough cost n cheap short = let fits = row_fits cost (n + 1) 4294967297 1048577 (omega arith) (omega arith) in omega arith
 
 -- a run with the greatest number of steps ends with an answer

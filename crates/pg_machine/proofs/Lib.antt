@@ -6,3 +6,5 @@ pub mod FewSteps
 pub mod Probed
 pub mod BothReadings
 pub mod OneTurn
+pub mod Discarding
+pub mod ErrorAlone

@@ -17,11 +17,11 @@ use Rattle.pg_machine.specs.declared.answer.Answer.{Answer}
 use Rattle.pg_machine.specs.declared.answer.Outcome.TheVariants.{Answered}
 use Rattle.pg_machine.specs.declared.answer.Success.{Success}
 
-some_node : {G : Given} {p m : ℕ} {a : Spot} {o : Outcome} → Answers G p a o m → 0 < m
+pub some_node : {G : Given} {p m : ℕ} {a : Spot} {o : Outcome} → Answers G p a o m → 0 < m
 some_node (entered there d) = omega arith
 
 -- the end of the text is one more node, and two more turns, after an ok answer
-counted : (o : Outcome) (m k : ℕ) → 0 < m → k + 1 ≡ 2 * m → k ≤ 2 ^ 64 - 1 → steps_to_end o k ≡ min (2 * nodes_to_end o m - 1) (2 ^ 64 - 1)
+pub counted : (o : Outcome) (m k : ℕ) → 0 < m → k + 1 ≡ 2 * m → k ≤ 2 ^ 64 - 1 → steps_to_end o k ≡ min (2 * nodes_to_end o m - 1) (2 ^ 64 - 1)
 counted (ok c b v t e) m k l h f = omega arith
 counted (failed c e) m k l h f = omega arith
 counted empty_round m k l h f = omega arith

@@ -1,3 +1,4 @@
 pub mod Outcomes
 pub mod CheckedRuns
 pub mod Laws
+pub mod Treeless

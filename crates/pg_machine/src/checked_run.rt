@@ -3,7 +3,7 @@
 //! A run is a probe with the greatest number of steps that can be counted: by the law of `laws.rt` it ends with an answer, since the step
 //! cost of a checked grammar is within a limit, and so is the length of a text. After an ok answer the text must end.
 
-ghost use Rattle.std.specs.Prelude.{◌≡◌, ◌≤◌, ◌+◌, ◌*◌, length, IfOk, OnOk, IfSome, IfNone};
+ghost use Rattle.std.specs.Prelude.{◌≡◌, ◌≤◌, ◌+◌, ◌*◌, length, None, IfOk, OnOk, IfSome, IfNone};
 ghost use Rattle.pg_grammar_value.specs.Fits.{Fits};
 ghost use Rattle.pg_pred.specs.Offer.{offer_of};
 ghost use Rattle.pg_table.specs.Tables.{ComesFrom};
@@ -25,6 +25,9 @@ ghost use Rattle.pg_machine.specs.Outcomes.{outcome_of};
 use crate::answer::{Answer, Outcome};
 use crate::laws::accepted_probes_answer;
 use crate::probing::probe;
+use crate::treeless::probe_treeless;
+use pg_derive_bound::accepted_starts_come_to_answers;
+use pg_grammar_form::Around;
 use pg_grammar_value::Grammar;
 use pg_language::Reading;
 use pg_machine_turns::error_at_end;
@@ -72,6 +75,45 @@ pub fn run(
         Outcome::Answered(answer) => whole_answer(alloc, text, answer),
         Outcome::StepsUsed | Outcome::EmptyRound => unreachable!(),
     }
+}
+
+/// The answer of [`run`], if it is an error. None says nothing of the text: it is derived, and has to be run for its trees. No tree is made here, so that a text that
+/// is refused takes less time. The caller ensures the same as for `run`.
+pub fn refusal(
+    alloc: Global,
+    checked: &Checked,
+    text: &Text,
+    table: &Table,
+    registry: &Registry,
+) -> Result<Option<Answer>, AllocError>
+    requires fits { Fits (offer_of registry.now) checked.now.grammar }
+    requires table { ComesFrom checked.now.grammar table.now }
+    ensures answer { IfOk result (λ found. IfSome found (IsTextAnswer (given Library checked.now.grammar text.now) table.now)) }
+    ensures error { IfOk result (λ found. IfSome found (λ a. a.success ≡ None)) }
+{
+    let grammar = accepted(checked, text);
+    accepted_starts_come_to_answers();
+    let skip = Around::Skip;
+    match probe_treeless(alloc, grammar, text, table, registry, &skip)? {
+        Outcome::Answered(answer) => error_alone(alloc, text, answer),
+        Outcome::StepsUsed | Outcome::EmptyRound => Ok(None),
+    }
+}
+
+/// The answer for the whole text, if that is an error.
+fn error_alone(alloc: Global, text: &Text, answer: Answer) -> Result<Option<Answer>, AllocError>
+    requires { answer.error.position ≡ position_of text.now answer.error.place }
+    ensures outcome { IfOk result (λ found. IfSome found (λ whole. outcome_of whole ≡ at_end text.now (outcome_of answer))) }
+    ensures position { IfOk result (λ found. IfSome found (λ whole. whole.error.position ≡ position_of text.now whole.error.place)) }
+    ensures steps { IfOk result (λ found. IfSome found (λ whole. whole.steps ≡ steps_to_end (outcome_of answer) answer.steps)) }
+    ensures error { IfOk result (λ found. IfSome found (λ whole. whole.success ≡ None)) }
+{
+    let whole = whole_answer(alloc, text, answer)?;
+    if whole.success.is_some() {
+        drop(whole);
+        return Ok(None);
+    }
+    Ok(Some(whole))
 }
 
 /// The grammar, with all known facts about it and the text.

@@ -1,5 +1,5 @@
 -- A run so far: it reaches what the machine's state reaches, and the turns are counted.
-use Rattle.std.proofs.Common.{◌≡◌, ◌<◌, ◌≤◌, ◌+◌, ◌*◌, ℕ, zero, suc, List, [], ◌∷◌, length, Bool, true, false, refl, subst, arith}
+use Rattle.std.proofs.Common.{◌≡◌, ◌<◌, ◌≤◌, ◌+◌, ◌*◌, ℕ, zero, suc, List, [], ◌∷◌, length, Bool, true, false, refl, subst, ap, arith}
 use Rattle.std.specs.Prelude.{Option, Some, None, slice_get, reverse, ◌++◌, ◌||◌}
 use Rattle.pg_tree.specs.Trees.{Tree}
 use Rattle.pg_grammar_form.specs.Forms.{Node}
@@ -234,3 +234,65 @@ no_finish h = elim h [ ]
 -- no outcome comes of a run without an end
 pub run_endless : (G : Given) (p : ℕ) (a : Spot) (steps : ℕ) → Run G p a steps endless → (o : Outcome) (m : ℕ) → Answers G p a o m → ⊥
 run_endless G p a steps r o m d = let s = r.complete o m d in no_finish s.finishes
+
+-- ---- towards an outcome that is known
+
+-- a run that comes to this outcome after this many nodes is in this state after this number of turns; so many more turns are for the frames that it began with
+pub record Nears (G : Given) (out : Outcome) (m extra steps : ℕ) (st : State) : Type 0 where
+  pub entered : ℕ
+  pub pending : ℕ
+  pub still : Still G st out entered m
+  pub has_pending : HasPending st pending
+  pub counted : steps + pending ≡ extra + 2 * entered
+
+pub nears_turn : (G : Given) (out : Outcome) (m extra steps : ℕ) (st : State) → is_last st ≡ false → Nears G out m extra steps st → Nears G out m extra (suc steps) (turn G st)
+nears_turn G out m extra steps (at_node q b fs) going r =
+    let s = r.still in
+    let e = node_complete q b fs out s.nodes s.finishes in
+    let x = s.count in
+    let y = e.count in
+    record {
+      entered = suc r.entered;
+      pending = suc (length fs);
+      still = record { nodes = e.less; finishes = e.finishes; count = omega arith };
+      has_pending = enter_pending G (slice_get G.grammar.nodes q) b fs;
+      counted = let h = r.has_pending in let k = r.counted in omega arith;
+    }
+nears_turn G out m extra steps (with_outcome o []) going r = cc
+nears_turn G out m extra steps (with_outcome o (f ∷ fs)) going r =
+    let s = r.still in
+    record {
+      entered = r.entered;
+      pending = suc (length fs);
+      still = record { nodes = s.nodes; finishes = handed_complete G f o fs out s.nodes s.finishes; count = s.count };
+      has_pending = hand_pending G f o fs;
+      counted = let h = r.has_pending in let k = r.counted in omega arith;
+    }
+nears_turn G out m extra steps endless going r = cc
+
+-- where a turn is left, it takes more turns than there were
+pub nears_shorter : (G : Given) (out : Outcome) (m extra steps : ℕ) (st : State) → is_last st ≡ false → Nears G out m extra steps st → steps + 1 < extra + 2 * m
+nears_shorter G out m extra steps (at_node q b fs) going r =
+    let s = r.still in let x = s.count in let y = some_node s.finishes in let h = r.has_pending in let k = r.counted in omega arith
+nears_shorter G out m extra steps (with_outcome x []) going r = cc
+nears_shorter G out m extra steps (with_outcome x (f ∷ fs)) going r =
+    let s = r.still in let x = s.count in let h = r.has_pending in let k = r.counted in omega arith
+nears_shorter G out m extra steps endless going r = cc
+
+-- with no frame left there is nothing more to come to
+only_returned : {G : Given} {x out : Outcome} {n : ℕ} → Finishes G (with_outcome x []) out n → (x ≡ out) × (n ≡ 0)
+only_returned (handing returned) = (refl, refl)
+
+-- at the end it is there, and the turns are counted
+pub nears_end : (G : Given) (out : Outcome) (m extra steps : ℕ) (st : State) → is_last st ≡ true → Nears G out m extra steps st → (st ≡ with_outcome out []) × (steps + 1 ≡ extra + 2 * m)
+nears_end G out m extra steps (at_node q b fs) last r = cc
+nears_end G out m extra steps (with_outcome x []) last r =
+    let s = r.still in
+    let is = only_returned s.finishes in
+    let n = is.1 in
+    let c = s.count in
+    let h = r.has_pending in
+    let k = r.counted in
+    (ap (λ (o : Outcome). with_outcome o []) is.0, omega arith)
+nears_end G out m extra steps (with_outcome x (f ∷ fs)) last r = cc
+nears_end G out m extra steps endless last r = absurd (no_finish r.still.finishes)

@@ -2,11 +2,14 @@
 
 ghost use Rattle.std.specs.Prelude.{◌≡◌, ◌∷◌, ◌++◌, [], length, take, IfOk, OnOk};
 ghost use Rattle.pg_table.specs.Tables.{first_operators};
-ghost use Rattle.pg_machine_lists.specs.RunTrees.{no_run_trees, tree_count, first_trees};
+ghost use Rattle.pg_grammar_form.specs.declared.form.Around.TheVariants.{Skip};
+ghost use Rattle.pg_machine_lists.specs.RunTrees.{no_run_trees, tree_count, first_trees, with_hiding};
+ghost use Rattle.pg_machine_turns.specs.Tape.{on_around};
 ghost use Rattle.pg_machine_turns.specs.View.{frame_of};
 
-use crate::frame::{Frame, LinksFrame, Marks};
+use crate::frame::{AroundFrame, Frame, LinksFrame, Marks};
 use crate::frames::Frames;
+use pg_grammar_form::Around;
 use pg_grammar_value::TrailItem;
 use pg_language_operators::InForce;
 use pg_machine_lists::Lists;
@@ -42,6 +45,31 @@ impl<'a> Machine<'a> {
             spare_links: None,
             in_force: None,
         }
+    }
+
+    /// A machine with this table in which a `skip` waits for its part, so that what runs makes no trees.
+    pub fn discarding(
+        alloc: Global,
+        table: Table,
+        skip: &'a Around,
+    ) -> Result<Machine<'a>, AllocError>
+        requires { skip.now ≡ Skip }
+        ensures frames { IfOk result (λ machine. machine.frames ≡ on_around Skip 0 0 (length table.operators) ∷ []) }
+        ensures forest { IfOk result (λ machine. machine.lists.forest ≡ with_hiding no_run_trees) }
+        ensures trail { IfOk result (λ machine. machine.lists.trail.items ≡ []) }
+        ensures messages { IfOk result (λ machine. machine.lists.messages ≡ []) }
+        ensures table { IfOk result (λ machine. machine.table ≡ table) }
+    {
+        let operators = table.operators().len();
+        let mut machine = Machine::new(alloc, table);
+        machine.lists.forest.hide()?;
+        machine.push(Frame::Around(AroundFrame {
+            around: skip,
+            start: 0,
+            forest: 0,
+            operators,
+        }))?;
+        Ok(machine)
     }
 
     /// Pushes a frame.

@@ -32,6 +32,7 @@ complete -c pgw -n __fish_use_subcommand -a test -d 'Tries the cases of corpora 
 complete -c pgw -n __fish_use_subcommand -a sets -d 'Prints what can begin and follow each form'
 complete -c pgw -n __fish_use_subcommand -a print -d 'Prints a grammar in canonical form'
 complete -c pgw -n __fish_use_subcommand -a haskell -d 'Prints a grammar as a Haskell module'
+complete -c pgw -n __fish_use_subcommand -a lsp -d 'Serves an editor'
 complete -c pgw -n __fish_use_subcommand -a help -d 'Says more of the program, a command or a code'
 complete -c pgw -n __fish_use_subcommand -s V -l version -d 'Prints the version'
 complete -c pgw -s h -l help -d 'Says how it is called'
@@ -58,5 +59,6 @@ complete -c pgw -n '__fish_seen_subcommand_from test' -l probe -d 'Tries any gra
 complete -c pgw -n '__fish_seen_subcommand_from test' -l update -d 'Prints the corpus with what came'
 complete -c pgw -n '__fish_seen_subcommand_from test' -s v -l verbose -d 'Lists the cases that pass too'
 complete -c pgw -n '__fish_seen_subcommand_from haskell' -l module -x -d 'The name of the module'
+complete -c pgw -n '__fish_seen_subcommand_from lsp' -f
 complete -c pgw -n '__fish_seen_subcommand_from explain; and __pgw_grammar >/dev/null' -f -a '(__pgw_rules)'
-complete -c pgw -n '__fish_seen_subcommand_from help' -f -a "check explain verify parse probe replay test sets print haskell $codes"
+complete -c pgw -n '__fish_seen_subcommand_from help' -f -a "check explain verify parse probe replay test sets print haskell lsp $codes"

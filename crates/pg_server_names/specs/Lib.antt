@@ -1,0 +1,4 @@
+pub mod Surroundings
+pub mod Senses
+pub mod Asked
+pub mod Renaming
