@@ -26,3 +26,4 @@ pub mod ReadSo
 pub mod Ran
 pub mod RowPasses
 pub mod Held
+pub mod TokenTurns

@@ -8,7 +8,7 @@ use Rattle.pg_grammar_form.specs.declared.decl.Role.TheVariants.{InfixRight, Inf
 use Rattle.pg_grammar_form.specs.declared.operators_item.OperatorsItem.{OperatorsItem}
 use Rattle.pg_grammar_form.specs.declared.used.OperatorBuilders.{OperatorBuilders}
 use Rattle.pg_grammar_value.specs.Grammar.{Grammar}
-use Rattle.pg_language.specs.Answers.{Given, given}
+use Rattle.pg_language.specs.Answers.{given}
 use Rattle.pg_language.specs.OperatorReads.{read_at}
 use Rattle.pg_language.specs.declared.reading.Reading.TheVariants.{Library}
 use Rattle.pg_table.specs.Tables.{Table}
@@ -17,13 +17,12 @@ use Rattle.pg_machine_plan.specs.declared.instruction.Instruction.TheVariants.{R
 use Rattle.pg_machine_plan.specs.declared.instruction.Keep.{Keep}
 use Rattle.pg_machine_quick.specs.Looks.{given_of, IsPassedEnd, IsPassedFirst, IsPassedTo, IsRowEnd, NoneRead, Passes, program_of}
 use Rattle.pg_machine_quick.specs.Running.{IsOfExpression}
-use Rattle.pg_machine_quick.specs.Tape.{Tape, tape, tape_act, tape_goes, found_at, found_of, tape_awaited, tape_by_builders, tape_first_joined, tape_infixed, tape_passed, tape_postfixed, tape_prefixed, tape_settled, tape_settled_as}
+use Rattle.pg_machine_quick.specs.Tape.{Tape, tape, tape_act, tape_goes, found_at, found_of, tape_awaited, tape_by_builders, tape_first_joined, tape_infixed, tape_postfixed, tape_prefixed, tape_settled, tape_settled_as}
 use Rattle.pg_machine_quick.specs.Turns.{read_by}
 use Rattle.pg_machine_quick.specs.declared.context.Look.{Look}
 use Rattle.pg_machine_quick.specs.declared.frame.Frame.{Frame}
 use Rattle.pg_machine_quick.specs.declared.operators.Found.{Found}
 use Rattle.pg_machine_quick.specs.declared.passing.RowEnd.{RowEnd}
-use Rattle.pg_machine_quick.specs.Ran.{LeadsTo}
 use Rattle.pg_machine_quick.proofs.Ran.{leads_by, leads_trans}
 
 -- what a row reads of the operators in force, with any table of these

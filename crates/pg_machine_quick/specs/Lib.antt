@@ -4,4 +4,5 @@ pub mod Readings
 pub mod Running
 pub mod Ran
 pub mod Looks
+pub mod Tokens
 pub mod Laws

@@ -32,7 +32,8 @@ impl<'a> Running<'a> {
         let Some(begin) = self.begin() else {
             return Ok(Step::GivesUp);
         };
-        let Some(symbol) = symbol_at(text, operation.place, operation.count) else {
+        let (place, count) = (operation.place as usize, operation.count as usize);
+        let Some(symbol) = symbol_at(text, place, count) else {
             return Ok(Step::GivesUp);
         };
         if begin > self.trees.len() {

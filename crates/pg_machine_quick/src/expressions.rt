@@ -1,13 +1,13 @@
 //! Turns of the code of expressions: how they begin, and operators that wait.
 
-ghost use Rattle.std.specs.Prelude.{◌≡◌, IfOk};
+ghost use Rattle.std.specs.Prelude.{◌≡◌, length, IfOk, IfSome};
 ghost use Rattle.pg_machine_quick.specs.Running.{shown, Does, first_frame};
-ghost use Rattle.pg_machine_quick.specs.Tape.{begin_of, tape_begun, tape_passed, tape_waits, tape_prefixed, tape_awaited};
+ghost use Rattle.pg_machine_quick.specs.Tape.{begin_of, tape_begun, tape_passed, tape_waits, tape_prefixed, tape_awaited, operation};
 ghost use Rattle.pg_table.specs.Tables.{Table};
 
 use crate::frame::{Frame, Operation};
 use crate::operators::Found;
-use crate::running::Running;
+use crate::running::{Running, noted};
 use crate::step::Step;
 use pg_grammar_form::Role;
 use pg_grammar_value::Grammar;
@@ -52,18 +52,31 @@ impl<'a> Running<'a> {
         let Some(pc) = self.pc.checked_add(1) else {
             return Ok(Step::GivesUp);
         };
-        let operation = Operation {
-            rank,
-            role,
-            place: self.place,
-            count: found.count,
-            trees: self.trees.len(),
+        let Some(operation) = self.operation(rank, role, found.count) else {
+            return Ok(Step::GivesUp);
         };
         self.frames.push(Frame::Operates(operation))?;
         self.pc = pc;
         self.place = found.end;
         self.taken = true;
         Ok(Step::GoesOn)
+    }
+
+    /// An operator of the next characters, so many. None where a number is too great for a frame.
+    pub(crate) fn operation(&self, rank: usize, role: Role, count: usize) -> Option<Operation>
+        ensures { IfSome result (λ waits. waits ≡ operation rank role self.now.place count (length self.now.trees)) }
+    {
+        let rank = noted(rank)?;
+        let place = noted(self.place)?;
+        let count = noted(count)?;
+        let trees = noted(self.trees.len())?;
+        Some(Operation {
+            rank,
+            role,
+            place,
+            count,
+            trees,
+        })
     }
 
     /// A prefix operator of a row waits, if one was read.
@@ -93,8 +106,8 @@ impl<'a> Running<'a> {
         ensures { result ≡ begin_of (shown self.now).stack }
     {
         match self.last() {
-            Some(Frame::Holds(count)) => Some(count),
-            Some(Frame::Operates(operation)) => Some(operation.trees),
+            Some(Frame::Holds(count)) => Some(count as usize),
+            Some(Frame::Operates(operation)) => Some(operation.trees as usize),
             Some(Frame::Returns(_) | Frame::Encloses(_, _) | Frame::Marks(_, _)) | None => None,
         }
     }
@@ -105,7 +118,7 @@ impl<'a> Running<'a> {
     {
         match self.last() {
             Some(Frame::Operates(operation)) => {
-                if operation.rank == rank {
+                if operation.rank as usize == rank {
                     Some(operation.role)
                 } else {
                     None

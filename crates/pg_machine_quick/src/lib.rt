@@ -16,6 +16,7 @@ mod rows;
 mod run;
 mod running;
 mod step;
+mod tokens;
 mod trees;
 mod turn;
 
@@ -26,3 +27,4 @@ pub use reading::Reading;
 pub use run::attempt;
 pub use running::Running;
 pub use step::Step;
+pub use tokens::{Taken, Token, Wrapped};

@@ -4,7 +4,7 @@ ghost use Rattle.std.specs.Prelude.{◌≡◌, slice_get, IfOk};
 ghost use Rattle.pg_machine_quick.specs.Running.{shown, Does};
 ghost use Rattle.pg_machine_quick.specs.Tape.{begin_of, tape_linked, tape_unlinked_from, tape_last_unlinked, tape_links_folded};
 
-use crate::frame::{Frame, Operation};
+use crate::frame::Frame;
 use crate::running::Running;
 use crate::step::Step;
 use crate::trees::fold;
@@ -21,12 +21,8 @@ impl<'a> Running<'a> {
         let Some(pc) = self.pc.checked_add(1) else {
             return Ok(Step::GivesUp);
         };
-        let operation = Operation {
-            rank: 0,
-            role: Role::InfixRight,
-            place: self.place,
-            count: 0,
-            trees: self.trees.len(),
+        let Some(operation) = self.operation(0, Role::InfixRight, 0) else {
+            return Ok(Step::GivesUp);
         };
         self.frames.push(Frame::Operates(operation))?;
         self.pc = pc;

@@ -2,7 +2,7 @@
 //!
 //! Each method makes one kind of turn as `specs/Tape.antt` says, or gives up. It gives up where a number would be too great, so that no bound has to be kept.
 
-ghost use Rattle.std.specs.Prelude.{◌≡◌, ◌+◌, ◌∷◌, false, length, take, IfOk};
+ghost use Rattle.std.specs.Prelude.{◌≡◌, ◌+◌, ◌∷◌, false, length, take, IfOk, IfSome};
 ghost use Rattle.pg_machine_quick.specs.Running.{shown, Does};
 ghost use Rattle.pg_machine_quick.specs.Tape.{tape, tape_goes, tape_back, tape_picked, tape_returned, tape_released, tape_committed, tape_again, tape_stopped, before};
 ghost use Rattle.pg_machine_quick.specs.declared.frame.Frame.TheVariants.{Returns, Encloses, Holds, Marks};
@@ -75,7 +75,7 @@ impl<'a> Running<'a> {
     {
         match self.frames.pop() {
             Some(Frame::Returns(target)) => {
-                self.pc = target;
+                self.pc = target as usize;
                 Step::GoesOn
             }
             Some(Frame::Encloses(_, _) | Frame::Holds(_) | Frame::Operates(_) | Frame::Marks(_, _))
@@ -88,7 +88,10 @@ impl<'a> Running<'a> {
         ensures { IfOk result (λ step. Does (tape_goes (tape target self.old.place (Returns (self.old.pc + 1) ∷ (shown self.old).stack) self.old.trees (self.old.nodes + 1) self.old.taken)) step (shown self.new)) }
     {
         let step = self.enter();
-        self.frames.push(Frame::Returns(self.pc))?;
+        let Some(next) = noted(self.pc) else {
+            return Ok(Step::GivesUp);
+        };
+        self.frames.push(Frame::Returns(next))?;
         self.pc = target;
         Ok(step)
     }
@@ -98,7 +101,9 @@ impl<'a> Running<'a> {
         ensures { IfOk result (λ step. Does (tape_goes (tape (self.old.pc + 1) self.old.place (Encloses counts (before (length self.old.trees) self.old.place self.old.taken) ∷ (shown self.old).stack) self.old.trees (self.old.nodes + 1) false)) step (shown self.new)) }
     {
         let step = self.enter();
-        let before = self.before();
+        let Some(before) = self.before() else {
+            return Ok(Step::GivesUp);
+        };
         self.frames.push(Frame::Encloses(counts, before))?;
         self.taken = false;
         Ok(step)
@@ -109,7 +114,10 @@ impl<'a> Running<'a> {
         ensures { IfOk result (λ step. Does (tape_goes (tape (self.old.pc + 1) self.old.place (Holds (length self.old.trees) ∷ (shown self.old).stack) self.old.trees (self.old.nodes + 1) self.old.taken)) step (shown self.new)) }
     {
         let step = self.enter();
-        self.frames.push(Frame::Holds(self.trees.len()))?;
+        let Some(count) = noted(self.trees.len()) else {
+            return Ok(Step::GivesUp);
+        };
+        self.frames.push(Frame::Holds(count))?;
         Ok(step)
     }
 
@@ -120,22 +128,26 @@ impl<'a> Running<'a> {
         let Some(pc) = self.pc.checked_add(1) else {
             return Ok(Step::GivesUp);
         };
-        let before = self.before();
+        let (Some(target), Some(before)) = (noted(target), self.before()) else {
+            return Ok(Step::GivesUp);
+        };
         self.frames.push(Frame::Marks(target, before))?;
         self.pc = pc;
         self.taken = false;
         Ok(Step::GoesOn)
     }
 
-    /// How it is now.
-    fn before(&self) -> Before
-        ensures { result ≡ before (length self.now.trees) self.now.place self.now.taken }
+    /// How it is now. None where a number is too great for a frame.
+    pub(crate) fn before(&self) -> Option<Before>
+        ensures { IfSome result (λ now. now ≡ before (length self.now.trees) self.now.place self.now.taken) }
     {
-        Before {
-            trees: self.trees.len(),
-            place: self.place,
+        let trees = noted(self.trees.len())?;
+        let place = noted(self.place)?;
+        Some(Before {
+            trees,
+            place,
             taken: self.taken,
-        }
+        })
     }
 
     /// Ends a chain.
@@ -205,15 +217,16 @@ impl<'a> Running<'a> {
     }
 
     /// Goes on at a mark, after so many nodes.
-    fn back_to(&mut self, target: usize, before: Before, nodes: usize) -> Step
+    fn back_to(&mut self, target: u32, before: Before, nodes: usize) -> Step
         ensures { Does (tape_goes (tape target before.place (shown self.old).stack (take before.trees self.old.trees) nodes before.taken)) result (shown self.new) }
     {
-        if before.trees > self.trees.len() {
+        let trees = before.trees as usize;
+        if trees > self.trees.len() {
             return Step::GivesUp;
         }
-        self.trees.cut(before.trees);
-        self.pc = target;
-        self.place = before.place;
+        self.trees.cut(trees);
+        self.pc = target as usize;
+        self.place = before.place as usize;
         self.nodes = nodes;
         self.taken = before.taken;
         Step::GoesOn
@@ -231,5 +244,15 @@ impl<'a> Running<'a> {
         };
         self.nodes = nodes;
         Step::Stops
+    }
+}
+
+/// A number as frames have it. None where it is too great for one.
+pub(crate) fn noted(number: usize) -> Option<u32>
+    ensures { IfSome result (λ same. same ≡ number) }
+{
+    match u32::try_from(number) {
+        Ok(number) => Some(number),
+        Err(_) => None,
     }
 }

@@ -127,7 +127,10 @@ impl<'a> Running<'a> {
         let Some(pc) = self.pc.checked_add(1) else {
             return Ok(Step::GivesUp);
         };
-        if before.trees > self.trees.len() || before.place > self.place || self.place > text.len() {
+        if before.trees as usize > self.trees.len()
+            || before.place as usize > self.place
+            || self.place > text.len()
+        {
             return Ok(Step::GivesUp);
         }
         if !make(&mut self.trees, keep, around, text, before, self.place)? {
@@ -144,7 +147,7 @@ impl<'a> Running<'a> {
         ensures { IfOk result (λ step. Does (tape_folds keep used.now (shown self.old) (shown self.old).stack) step (shown self.new)) }
     {
         match self.last() {
-            Some(Frame::Holds(count)) => self.fold_after(keep, used, count),
+            Some(Frame::Holds(count)) => self.fold_after(keep, used, count as usize),
             Some(
                 Frame::Returns(_) | Frame::Encloses(_, _) | Frame::Operates(_) | Frame::Marks(_, _),
             )
@@ -176,7 +179,7 @@ impl<'a> Running<'a> {
 }
 
 /// Puts a leaf of these characters, which stand in the text from this place on, at the end, where trees are kept. Says whether it did.
-fn push(
+pub(crate) fn push(
     trees: &mut PlacedForest<'_>,
     keep: Keep,
     characters: &[char],
@@ -234,7 +237,7 @@ fn is_some_character(characters: &[char]) -> bool
 }
 
 /// What a form makes of the trees since it began, where trees are kept; elsewhere they are dropped. Says whether it did.
-fn make(
+pub(crate) fn make(
     trees: &mut PlacedForest<'_>,
     keep: Keep,
     around: &Around,
@@ -250,7 +253,7 @@ fn make(
     match keep {
         Keep::Kept => make_kept(trees, around, text, before, place),
         Keep::Hidden => {
-            trees.cut(before.trees);
+            trees.cut(before.trees as usize);
             Ok(true)
         }
     }
@@ -272,14 +275,17 @@ fn make_kept(
     match around {
         Around::Try | Around::Label(_) | Around::Local => Ok(true),
         Around::Skip => {
-            trees.cut(before.trees);
+            trees.cut(before.trees as usize);
             Ok(true)
         }
         Around::Text => {
-            trees.cut(before.trees);
-            trees.push_leaf(&text.characters()[before.place..place], before.place)
+            let from = before.place as usize;
+            trees.cut(before.trees as usize);
+            trees.push_leaf(&text.characters()[from..place], from)
         }
-        Around::Build(used, symbol) => { trees.build(&used.shape, symbol.as_str(), before.trees) }
+        Around::Build(used, symbol) => {
+            trees.build(&used.shape, symbol.as_str(), before.trees as usize)
+        }
     }
 }
 

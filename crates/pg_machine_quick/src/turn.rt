@@ -46,6 +46,7 @@ impl<'a> Running<'a> {
             | Instruction::ReadPostfix(_, _, _)
             | Instruction::ReadInfix(_, _, _)
             | Instruction::Settle(_, _, _) => self.take_rows(context),
+            Instruction::Open(counts) => self.begin_form(context, *counts),
             Instruction::Enter
             | Instruction::Read(_, _)
             | Instruction::Span(_, _)
@@ -53,7 +54,6 @@ impl<'a> Running<'a> {
             | Instruction::Pick(_)
             | Instruction::Call(_)
             | Instruction::Return
-            | Instruction::Open(_)
             | Instruction::Close(_, _)
             | Instruction::Hold
             | Instruction::Fold(_, _)

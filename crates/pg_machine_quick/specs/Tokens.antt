@@ -1,0 +1,64 @@
+-- Tokens: a form `text` around a leaf and all characters of a class that come after it.
+use Rattle.std.specs.Prelude.{◌≡◌, ◌+◌, ◌∷◌, [], ℕ, Bool, true, List, Option, Some, drop, length, slice_get, take}
+use Rattle.pg_grammar_form.specs.Forms.{Node}
+use Rattle.pg_grammar_form.specs.declared.class.ClassPart.{ClassPart}
+use Rattle.pg_grammar_form.specs.declared.form.Around.{Around}
+use Rattle.pg_grammar_form.specs.declared.form.Around.TheVariants.{Text}
+use Rattle.pg_grammar_form.specs.declared.form.Form.TheVariants as form
+use Rattle.pg_grammar_form.specs.declared.form.Leaf.TheVariants as leaf
+use Rattle.pg_language.specs.Derives.{leaf_of, made_by}
+use Rattle.pg_language.specs.Runs.{run_at}
+use Rattle.pg_machine_plan.specs.Plans.{Plan}
+use Rattle.pg_machine_plan.specs.declared.instruction.Instruction.TheVariants.{Enter, Read, Span, Open, Close}
+use Rattle.pg_machine_plan.specs.declared.instruction.Keep.{Keep}
+use Rattle.pg_machine_plan.specs.declared.instruction.Keep.TheVariants.{Hidden}
+use Rattle.pg_machine_quick.specs.Readings.{IsReadAt}
+use Rattle.pg_machine_quick.specs.Tape.{Tape, TapeTurn, tape, tape_gives_up, tape_goes}
+use Rattle.pg_machine_quick.specs.Turns.{added}
+use Rattle.pg_machine_quick.specs.declared.context.Context.{Context}
+use Rattle.pg_machine_quick.specs.declared.reading.Reading.TheVariants.{Took}
+use Rattle.pg_machine_quick.specs.declared.tokens.Taken.{Taken}
+use Rattle.pg_machine_quick.specs.declared.tokens.Token.{Token}
+use Rattle.pg_machine_quick.specs.declared.tokens.Wrapped.{Wrapped}
+use Rattle.pg_table.specs.Tables.{Table}
+
+-- behind the beginning of a form, the code of a token and the end of the form
+abbrev pub IsToken : Plan → ℕ → Token → Type 0
+IsToken plan pc t = (slice_get plan.code (pc + 1) ≡ Some Enter) × (slice_get plan.code (pc + 1 + 1) ≡ Some (Read Hidden t.first))
+    × (slice_get plan.code (pc + 1 + 1 + 1) ≡ Some (Span Hidden t.rest)) × (slice_get plan.code (pc + 1 + 1 + 1 + 1) ≡ Some (Close t.keep t.node))
+
+-- behind the beginning of a form, the code of one around a token, and the end of the form
+abbrev pub IsWrapped : Plan → ℕ → Wrapped → Type 0
+IsWrapped plan pc w = (counts : Bool) × (slice_get plan.code (pc + 1) ≡ Some (Open counts)) × IsToken plan (pc + 1) w.token × (slice_get plan.code (pc + 1 + 5) ≡ Some (Close w.keep w.node))
+
+-- at a place of the text the leaf at a node takes so many characters
+abbrev pub Takes : Context → ℕ → ℕ → ℕ → Type 0
+Takes c q i n = (node : Node) × (slice_get c.grammar.now.nodes q ≡ Some node) × ((table : Table) → IsReadAt c.grammar.now c.text.now table i node (Took n))
+
+-- at a place of the text these are all characters, one after another, of the class of the leaf at a node
+abbrev pub TakesAll : Context → ℕ → ℕ → List ℕ → Type 0
+TakesAll c q i cs = (class : List ClassPart) × (slice_get c.grammar.now.nodes q ≡ Some (form.Leaf (leaf.Satisfy class))) × (cs ≡ run_at c.grammar.now c.text.now class i)
+
+-- a node is a form `text`
+abbrev pub IsText : Context → ℕ → Type 0
+IsText c q = (p : ℕ) × (slice_get c.grammar.now.nodes q ≡ Some (form.Around Text p))
+
+-- at a place of the text a token takes these
+abbrev pub IsTaken : Context → Token → ℕ → Taken → Type 0
+IsTaken c t i x = Takes c t.first i x.first × IsText c t.node × (cs : List ℕ) × TakesAll c t.rest (i + x.first) cs × (x.more ≡ length cs)
+
+-- what comes of a token of n characters and m after them: one leaf
+abbrev pub token_tape : List ℕ → Keep → Tape → ℕ → ℕ → Tape
+token_tape text keep s n m =
+    tape (s.pc + 5) (s.place + (n + m)) s.stack (added keep s.trees (leaf_of (take (n + m) (drop s.place text)) ∷ [])) (s.nodes + (5 + m)) true
+
+-- and of a form around one
+abbrev pub wrapped_tape : List ℕ → Wrapped → Around → Tape → ℕ → ℕ → Tape
+wrapped_tape text w kind s n m =
+    let inner : Tape = token_tape text w.token.keep s n m in
+    tape (inner.pc + 2) inner.place s.stack (added w.keep (take (length s.trees) inner.trees) (made_by kind text s.place inner.place (drop (length s.trees) inner.trees)))
+    (inner.nodes + 1) true
+
+abbrev pub tape_wrapped : Context → Wrapped → Taken → Tape → Option Node → TapeTurn
+tape_wrapped c w x s (Some (form.Around kind p)) = tape_goes (wrapped_tape c.text.now w kind s x.first x.more)
+tape_wrapped c w x s _ = tape_gives_up

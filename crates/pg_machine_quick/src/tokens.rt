@@ -1,0 +1,360 @@
+//! Tokens at once: a form `text` around a leaf and all characters of a class that come after it, as in `text(many1(satisfy(digit)))`.
+//!
+//! The code of one takes a frame and five turns for what is one look at the text. Here it is one turn, which leads where these five do.
+
+ghost use Rattle.std.specs.Prelude.{◌≡◌, ◌+◌, ◌∷◌, [], true, Some, take, drop, slice_get, IfOk, IfSome};
+ghost use Rattle.pg_grammar_form.specs.declared.form.Around.TheVariants.{Text};
+ghost use Rattle.pg_grammar_form.specs.declared.form.Form.TheVariants.{Around};
+ghost use Rattle.pg_language.specs.Derives.{made_by};
+ghost use Rattle.pg_machine_plan.specs.declared.instruction.Instruction.TheVariants.{Open};
+ghost use Rattle.pg_machine_quick.specs.Looks.{Leads};
+ghost use Rattle.pg_machine_quick.specs.Running.{shown, Does};
+ghost use Rattle.pg_machine_quick.specs.Tape.{tape, tape_goes};
+ghost use Rattle.pg_machine_quick.specs.Tokens.{IsTaken, IsText, IsToken, IsWrapped, Takes, TakesAll, tape_wrapped, token_tape, wrapped_tape};
+ghost use Rattle.pg_machine_quick.specs.Turns.{added};
+
+use crate::context::Context;
+use crate::frame::Before;
+use crate::reading::{Reading, after, counted, reading_at};
+use crate::running::Running;
+use crate::step::Step;
+use crate::trees::{make, push};
+use pg_grammar_classes::ClassSite;
+use pg_grammar_form::{Around, Form, Leaf, NodeId};
+use pg_machine_plan::{Instruction, Keep, Plan};
+use pg_text::Text;
+use std::alloc::AllocError;
+
+/// The code of a token, behind the beginning of its form.
+#[derive(Clone, Copy)]
+pub struct Token {
+    /// The leaf.
+    pub first: NodeId,
+    /// The leaf of whose class all characters are taken after it.
+    pub rest: NodeId,
+    /// Whether the token's leaf is kept.
+    pub keep: Keep,
+    /// The form.
+    pub node: NodeId,
+}
+
+/// The code of a form around a token, behind its beginning: a builder's, as in `build(num, text(many1(satisfy(digit))))`.
+#[derive(Clone, Copy)]
+pub struct Wrapped {
+    /// The token.
+    pub token: Token,
+    /// Whether the form's trees are kept.
+    pub keep: Keep,
+    /// The form.
+    pub node: NodeId,
+}
+
+/// What a token takes.
+#[derive(Clone, Copy)]
+pub struct Taken {
+    /// How many characters its leaf takes.
+    pub first: usize,
+    /// How many come after them.
+    pub more: usize,
+}
+
+impl<'a> Running<'a> {
+    /// Begins a form around a part, or takes a token or a form around one at once.
+    pub(crate) fn begin_form(
+        &mut self,
+        context: Context<'_>,
+        counts: bool,
+    ) -> Result<Step, AllocError>
+        requires { slice_get context.plan.now.code self.old.pc ≡ Some (Open counts) }
+        ensures { IfOk result (λ step. Leads context.entry (shown self.old) step (shown self.new)) }
+    {
+        match token_at(context.plan, self.pc) {
+            Some(token) => self.begin_token(context, counts, token),
+            None => self.begin_around(context, counts),
+        }
+    }
+
+    /// Begins a form around a part, or takes one around a token at once.
+    fn begin_around(&mut self, context: Context<'_>, counts: bool) -> Result<Step, AllocError>
+        requires { slice_get context.plan.now.code self.old.pc ≡ Some (Open counts) }
+        ensures { IfOk result (λ step. Leads context.entry (shown self.old) step (shown self.new)) }
+    {
+        match wrapped_at(context.plan, self.pc) {
+            Some(wrapped) => self.begin_wrapped(context, counts, wrapped),
+            None => self.begin_part(context, counts),
+        }
+    }
+
+    /// Takes a form around a token at once, or begins it where the token's leaf doesn't take anything.
+    fn begin_wrapped(
+        &mut self,
+        context: Context<'_>,
+        counts: bool,
+        wrapped: Wrapped,
+    ) -> Result<Step, AllocError>
+        requires begin { slice_get context.plan.now.code self.old.pc ≡ Some (Open counts) }
+        requires wrapped { IsWrapped context.plan.now self.old.pc wrapped }
+        ensures { IfOk result (λ step. Leads context.entry (shown self.old) step (shown self.new)) }
+    {
+        match taken_at(context, wrapped.token, self.place) {
+            Some(taken) => self.take_wrapped(context, wrapped, taken),
+            None => self.begin_part(context, counts),
+        }
+    }
+
+    /// Takes a token at once, or begins its form where its leaf doesn't take anything.
+    fn begin_token(
+        &mut self,
+        context: Context<'_>,
+        counts: bool,
+        token: Token,
+    ) -> Result<Step, AllocError>
+        requires begin { slice_get context.plan.now.code self.old.pc ≡ Some (Open counts) }
+        requires token { IsToken context.plan.now self.old.pc token }
+        ensures { IfOk result (λ step. Leads context.entry (shown self.old) step (shown self.new)) }
+    {
+        let keep = token.keep;
+        match taken_at(context, token, self.place) {
+            Some(taken) => self.take_token(keep, context.text, taken),
+            None => self.begin_part(context, counts),
+        }
+    }
+
+    /// Begins a form around a part.
+    fn begin_part(&mut self, context: Context<'_>, counts: bool) -> Result<Step, AllocError>
+        requires { slice_get context.plan.now.code self.old.pc ≡ Some (Open counts) }
+        ensures { IfOk result (λ step. Leads context.entry (shown self.old) step (shown self.new)) }
+    {
+        self.open(counts)
+    }
+
+    /// A form around a token has taken these characters.
+    fn take_wrapped(
+        &mut self,
+        context: Context<'_>,
+        wrapped: Wrapped,
+        taken: Taken,
+    ) -> Result<Step, AllocError>
+        ensures { IfOk result (λ step. Does (tape_wrapped context.entry wrapped taken (shown self.old) (slice_get context.entry.grammar.now.nodes wrapped.node)) step (shown self.new)) }
+    {
+        match context.grammar.nodes().get(wrapped.node.index()) {
+            Some(Form::Around(around, _)) => self.take_around(context.text, wrapped, around, taken),
+            Some(
+                Form::Leaf(_)
+                | Form::Seq(_)
+                | Form::Choice(_)
+                | Form::Many(_)
+                | Form::Chain(_, _, _, _)
+                | Form::Rule(_)
+                | Form::Expression(_, _),
+            )
+            | None => Ok(Step::GivesUp),
+        }
+    }
+
+    /// The same, where this is the form.
+    fn take_around(
+        &mut self,
+        text: &Text,
+        wrapped: Wrapped,
+        around: &Around,
+        taken: Taken,
+    ) -> Result<Step, AllocError>
+        ensures { IfOk result (λ step. Does (tape_goes (wrapped_tape text.now wrapped around.now (shown self.old) taken.first taken.more)) step (shown self.new)) }
+    {
+        let Some(before) = self.before() else {
+            return Ok(Step::GivesUp);
+        };
+        match self.take_token(wrapped.token.keep, text, taken)? {
+            Step::GoesOn => self.end_around(text, wrapped.keep, around, before),
+            Step::GivesUp | Step::Stops => Ok(Step::GivesUp),
+        }
+    }
+
+    /// Ends a form around a token, before which it was so.
+    fn end_around(
+        &mut self,
+        text: &Text,
+        keep: Keep,
+        around: &Around,
+        before: Before,
+    ) -> Result<Step, AllocError>
+        ensures { IfOk result (λ step. Does (tape_goes (tape (self.old.pc + 2) self.old.place (shown self.old).stack (added keep (take before.trees self.old.trees)
+            (made_by around.now text.now before.place self.old.place (drop before.trees self.old.trees))) (self.old.nodes + 1) self.old.taken)) step (shown self.new)) }
+    {
+        let (Some(pc), Some(nodes)) = (self.pc.checked_add(2), self.nodes.checked_add(1)) else {
+            return Ok(Step::GivesUp);
+        };
+        if before.trees as usize > self.trees.len()
+            || before.place as usize > self.place
+            || self.place > text.len()
+        {
+            return Ok(Step::GivesUp);
+        }
+        if !make(&mut self.trees, keep, around, text, before, self.place)? {
+            return Ok(Step::GivesUp);
+        }
+        self.pc = pc;
+        self.nodes = nodes;
+        Ok(Step::GoesOn)
+    }
+
+    /// A token has taken these characters: they are one leaf.
+    fn take_token(&mut self, keep: Keep, text: &Text, taken: Taken) -> Result<Step, AllocError>
+        ensures { IfOk result (λ step. Does (tape_goes (token_tape text.now keep (shown self.old) taken.first taken.more)) step (shown self.new)) }
+    {
+        let Taken { first, more } = taken;
+        let (Some(pc), Some(count), Some(entered)) = (
+            self.pc.checked_add(5),
+            first.checked_add(more),
+            more.checked_add(5),
+        ) else {
+            return Ok(Step::GivesUp);
+        };
+        let Some(nodes) = self.nodes.checked_add(entered) else {
+            return Ok(Step::GivesUp);
+        };
+        let characters = text.characters();
+        if self.place > characters.len() || count > characters.len() - self.place {
+            return Ok(Step::GivesUp);
+        }
+        let end = self.place + count;
+        if !push(
+            &mut self.trees,
+            keep,
+            &characters[self.place..end],
+            self.place,
+        )? {
+            return Ok(Step::GivesUp);
+        }
+        self.pc = pc;
+        self.place = end;
+        self.nodes = nodes;
+        self.taken = true;
+        Ok(Step::GoesOn)
+    }
+}
+
+/// The token whose form begins there, if its code is one's.
+fn token_at(plan: &Plan, pc: usize) -> Option<Token>
+    ensures { IfSome result (IsToken plan.now pc) }
+{
+    let second = pc.checked_add(1)?;
+    let Some(Instruction::Enter) = plan.code().get(second) else {
+        return None;
+    };
+    let third = second.checked_add(1)?;
+    let Some(Instruction::Read(Keep::Hidden, first)) = plan.code().get(third) else {
+        return None;
+    };
+    let fourth = third.checked_add(1)?;
+    let Some(Instruction::Span(Keep::Hidden, rest)) = plan.code().get(fourth) else {
+        return None;
+    };
+    let fifth = fourth.checked_add(1)?;
+    let Some(Instruction::Close(keep, node)) = plan.code().get(fifth) else {
+        return None;
+    };
+    Some(Token {
+        first: *first,
+        rest: *rest,
+        keep: *keep,
+        node: *node,
+    })
+}
+
+/// The form around a token that begins there, if its code is one's.
+fn wrapped_at(plan: &Plan, pc: usize) -> Option<Wrapped>
+    ensures { IfSome result (IsWrapped plan.now pc) }
+{
+    let inner = pc.checked_add(1)?;
+    let Some(Instruction::Open(_)) = plan.code().get(inner) else {
+        return None;
+    };
+    let token = token_at(plan, inner)?;
+    let Some(Instruction::Close(keep, node)) = plan.code().get(inner.checked_add(5)?) else {
+        return None;
+    };
+    Some(Wrapped {
+        token,
+        keep: *keep,
+        node: *node,
+    })
+}
+
+/// What a token takes at a place of the text. None where its leaf doesn't take anything, or where its form isn't `text`.
+fn taken_at(context: Context<'_>, token: Token, place: usize) -> Option<Taken>
+    ensures { IfSome result (IsTaken context.entry token place) }
+{
+    let _part = text_at(context, token.node)?;
+    let first = taken_first(context, token.first, place)?;
+    let more = taken_more(context, token.rest, place.checked_add(first)?)?;
+    Some(Taken {
+        first,
+        more: more.len(),
+    })
+}
+
+/// How many characters the leaf at a node takes at a place, if it takes any.
+fn taken_first(context: Context<'_>, node: NodeId, place: usize) -> Option<usize>
+    ensures { IfSome result (Takes context.entry node place) }
+{
+    let found = context.grammar.nodes().get(node.index())?;
+    match reading_at(context.grammar, context.text, node, found, place)? {
+        Reading::Took(count) => Some(count),
+        Reading::Nothing | Reading::Failed(_) => None,
+    }
+}
+
+/// All characters from a place on of the class of the leaf at a node, one after another. None where the leaf has no class.
+fn taken_more<'r>(context: Context<'r>, node: NodeId, place: usize) -> Option<&'r [char]>
+    ensures { IfSome result (λ cs. TakesAll context.entry node place cs.now) }
+{
+    match context.grammar.nodes().get(node.index()) {
+        Some(Form::Leaf(Leaf::Satisfy(_))) => {
+            let rest = after(context.text.characters(), place);
+            let count = counted(context.grammar, ClassSite::Node(node), rest);
+            Some(&rest[..count])
+        }
+        Some(
+            Form::Leaf(
+                Leaf::String(_)
+                | Leaf::Word(_)
+                | Leaf::NotFollowedBy(_)
+                | Leaf::EndOfText
+                | Leaf::Declare(_),
+            )
+            | Form::Seq(_)
+            | Form::Choice(_)
+            | Form::Many(_)
+            | Form::Chain(_, _, _, _)
+            | Form::Rule(_)
+            | Form::Expression(_, _)
+            | Form::Around(_, _),
+        )
+        | None => None,
+    }
+}
+
+/// The part of the form at a node, if that is a form `text`.
+fn text_at(context: Context<'_>, node: NodeId) -> Option<NodeId>
+    ensures { IfSome result (λ part. IsText context.entry node) }
+{
+    match context.grammar.nodes().get(node.index()) {
+        Some(Form::Around(Around::Text, part)) => Some(*part),
+        Some(
+            Form::Around(
+                Around::Try | Around::Skip | Around::Build(_, _) | Around::Label(_) | Around::Local,
+                _,
+            )
+            | Form::Leaf(_)
+            | Form::Seq(_)
+            | Form::Choice(_)
+            | Form::Many(_)
+            | Form::Chain(_, _, _, _)
+            | Form::Rule(_)
+            | Form::Expression(_, _),
+        )
+        | None => None,
+    }
+}
