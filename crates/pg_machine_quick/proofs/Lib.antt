@@ -27,3 +27,4 @@ pub mod Ran
 pub mod RowPasses
 pub mod Held
 pub mod TokenTurns
+pub mod Marks

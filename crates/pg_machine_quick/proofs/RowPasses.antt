@@ -15,7 +15,8 @@ use Rattle.pg_table.specs.Tables.{Table}
 use Rattle.pg_machine_plan.specs.declared.instruction.Instruction.{Instruction}
 use Rattle.pg_machine_plan.specs.declared.instruction.Instruction.TheVariants.{ReadPrefix, ReadPostfix, ReadInfix, Settle}
 use Rattle.pg_machine_plan.specs.declared.instruction.Keep.{Keep}
-use Rattle.pg_machine_quick.specs.Looks.{given_of, IsPassedEnd, IsPassedFirst, IsPassedTo, IsRowEnd, NoneRead, Passes, program_of}
+use Rattle.pg_machine_quick.specs.Landmarks.{IsRowEnd}
+use Rattle.pg_machine_quick.specs.Looks.{given_of, IsPassedEnd, IsPassedFirst, IsPassedTo, NoneRead, Passes, program_of}
 use Rattle.pg_machine_quick.specs.Running.{IsOfExpression}
 use Rattle.pg_machine_quick.specs.Tape.{Tape, tape, tape_act, tape_goes, found_at, found_of, tape_awaited, tape_by_builders, tape_first_joined, tape_infixed, tape_postfixed, tape_prefixed, tape_settled, tape_settled_as}
 use Rattle.pg_machine_quick.specs.Turns.{read_by}

@@ -12,12 +12,13 @@ use Rattle.pg_machine_plan.specs.Plans.{Program}
 use Rattle.pg_machine_plan.specs.declared.instruction.Instruction.TheVariants.{Open}
 use Rattle.pg_machine_plan.specs.declared.instruction.Keep.{Keep}
 use Rattle.pg_machine_plan.specs.declared.instruction.Keep.TheVariants.{Hidden}
+use Rattle.pg_machine_quick.specs.Landmarks.{IsToken, IsWrapped}
 use Rattle.pg_machine_quick.specs.Looks.{Leads, program_of}
 use Rattle.pg_machine_quick.specs.Ran.{LeadsTo}
 use Rattle.pg_machine_quick.specs.Readings.{IsReadAt}
 use Rattle.pg_machine_quick.specs.Running.{Does}
 use Rattle.pg_machine_quick.specs.Tape.{Tape, TapeTurn, tape, tape_act, tape_closed, tape_goes, tape_has_read, tape_has_spanned, tape_reads, tape_spans, before}
-use Rattle.pg_machine_quick.specs.Tokens.{IsTaken, IsToken, IsWrapped, token_tape, tape_wrapped, wrapped_tape}
+use Rattle.pg_machine_quick.specs.Tokens.{IsTaken, token_tape, tape_wrapped, wrapped_tape}
 use Rattle.pg_machine_quick.specs.Turns.{added}
 use Rattle.pg_machine_quick.specs.declared.context.Context.{Context}
 use Rattle.pg_machine_quick.specs.declared.frame.Frame.TheVariants.{Encloses}

@@ -4,5 +4,6 @@ pub mod Readings
 pub mod Running
 pub mod Ran
 pub mod Looks
+pub mod Landmarks
 pub mod Tokens
 pub mod Laws

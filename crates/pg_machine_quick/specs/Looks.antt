@@ -1,20 +1,17 @@
 -- What stands at a place, and where turns lead.
-use Rattle.std.specs.Prelude.{◌≡◌, ◌+◌, ℕ, List, Some, None, slice_get}
+use Rattle.std.specs.Prelude.{◌≡◌, ◌+◌, ℕ, List, Some, None}
 use Rattle.pg_grammar_form.specs.declared.decl.Role.{Role}
 use Rattle.pg_grammar_form.specs.declared.decl.Role.TheVariants.{InfixRight, InfixLeft, InfixNone, Postfix}
 use Rattle.pg_grammar_form.specs.declared.operators_item.OperatorsItem.{OperatorsItem}
 use Rattle.pg_language.specs.Answers.{Given}
 use Rattle.pg_language_operators.specs.Standings.{Stands}
-use Rattle.pg_machine_plan.specs.Plans.{Plan, Program, program}
+use Rattle.pg_machine_plan.specs.Plans.{Program, program}
 use Rattle.pg_machine_plan.specs.declared.instruction.Instruction.{Instruction}
-use Rattle.pg_machine_plan.specs.declared.instruction.Instruction.TheVariants.{ReadPostfix, ReadInfix, Settle}
-use Rattle.pg_machine_plan.specs.declared.instruction.Keep.{Keep}
 use Rattle.pg_machine_quick.specs.Ran.{LeadsTo, Makes}
 use Rattle.pg_machine_quick.specs.Tape.{Tape, found_at, tape_act, tape_first_joined, tape_passed}
 use Rattle.pg_machine_quick.specs.declared.context.Context.{Context}
 use Rattle.pg_machine_quick.specs.declared.context.Look.{Look}
 use Rattle.pg_machine_quick.specs.declared.frame.Frame.{Frame}
-use Rattle.pg_machine_quick.specs.declared.passing.RowEnd.{RowEnd}
 use Rattle.pg_machine_quick.specs.declared.step.Step.{Step}
 use Rattle.pg_table.specs.Tables.{Table}
 
@@ -50,11 +47,6 @@ NoneRead l row role = (table : Table) → table.operators ≡ l.context.operator
 -- a row reads nothing after its first operand, and its end has so many instructions
 abbrev pub IsPassedEnd : Look → ℕ → ℕ → Type 0
 IsPassedEnd l row count = NoneRead l row Postfix × (n : ℕ) × ((table : Table) → table.operators ≡ l.context.operators.now → IsPassedFirst l table row n) × (count ≡ n + 2)
-
--- the end of a row of an expression is there
-abbrev pub IsRowEnd : Plan → ℕ → RowEnd → Type 0
-IsRowEnd plan pc e = (first second third : Keep) × (slice_get plan.code pc ≡ Some (Settle first e.node e.rank))
-    × (slice_get plan.code (pc + 1) ≡ Some (ReadPostfix second e.node e.row)) × (slice_get plan.code (pc + 1 + 1) ≡ Some (ReadInfix third e.node e.row))
 
 -- from one place in the code to another it only passes
 abbrev pub IsPassedTo : Look → Tape → ℕ → ℕ → Type 0

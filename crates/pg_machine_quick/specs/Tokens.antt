@@ -1,5 +1,5 @@
 -- Tokens: a form `text` around a leaf and all characters of a class that come after it.
-use Rattle.std.specs.Prelude.{◌≡◌, ◌+◌, ◌∷◌, [], ℕ, Bool, true, List, Option, Some, drop, length, slice_get, take}
+use Rattle.std.specs.Prelude.{◌≡◌, ◌+◌, ◌∷◌, [], ℕ, true, List, Option, Some, drop, length, slice_get, take}
 use Rattle.pg_grammar_form.specs.Forms.{Node}
 use Rattle.pg_grammar_form.specs.declared.class.ClassPart.{ClassPart}
 use Rattle.pg_grammar_form.specs.declared.form.Around.{Around}
@@ -8,10 +8,7 @@ use Rattle.pg_grammar_form.specs.declared.form.Form.TheVariants as form
 use Rattle.pg_grammar_form.specs.declared.form.Leaf.TheVariants as leaf
 use Rattle.pg_language.specs.Derives.{leaf_of, made_by}
 use Rattle.pg_language.specs.Runs.{run_at}
-use Rattle.pg_machine_plan.specs.Plans.{Plan}
-use Rattle.pg_machine_plan.specs.declared.instruction.Instruction.TheVariants.{Enter, Read, Span, Open, Close}
 use Rattle.pg_machine_plan.specs.declared.instruction.Keep.{Keep}
-use Rattle.pg_machine_plan.specs.declared.instruction.Keep.TheVariants.{Hidden}
 use Rattle.pg_machine_quick.specs.Readings.{IsReadAt}
 use Rattle.pg_machine_quick.specs.Tape.{Tape, TapeTurn, tape, tape_gives_up, tape_goes}
 use Rattle.pg_machine_quick.specs.Turns.{added}
@@ -21,15 +18,6 @@ use Rattle.pg_machine_quick.specs.declared.tokens.Taken.{Taken}
 use Rattle.pg_machine_quick.specs.declared.tokens.Token.{Token}
 use Rattle.pg_machine_quick.specs.declared.tokens.Wrapped.{Wrapped}
 use Rattle.pg_table.specs.Tables.{Table}
-
--- behind the beginning of a form, the code of a token and the end of the form
-abbrev pub IsToken : Plan → ℕ → Token → Type 0
-IsToken plan pc t = (slice_get plan.code (pc + 1) ≡ Some Enter) × (slice_get plan.code (pc + 1 + 1) ≡ Some (Read Hidden t.first))
-    × (slice_get plan.code (pc + 1 + 1 + 1) ≡ Some (Span Hidden t.rest)) × (slice_get plan.code (pc + 1 + 1 + 1 + 1) ≡ Some (Close t.keep t.node))
-
--- behind the beginning of a form, the code of one around a token, and the end of the form
-abbrev pub IsWrapped : Plan → ℕ → Wrapped → Type 0
-IsWrapped plan pc w = (counts : Bool) × (slice_get plan.code (pc + 1) ≡ Some (Open counts)) × IsToken plan (pc + 1) w.token × (slice_get plan.code (pc + 1 + 5) ≡ Some (Close w.keep w.node))
 
 -- at a place of the text the leaf at a node takes so many characters
 abbrev pub Takes : Context → ℕ → ℕ → ℕ → Type 0

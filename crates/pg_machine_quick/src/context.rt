@@ -5,11 +5,11 @@ ghost use Rattle.pg_machine_quick.specs.Looks.{given_of, IsLook};
 ghost use Rattle.pg_machine_quick.specs.Tape.{found_at};
 ghost use Rattle.pg_table.specs.Tables.{Table};
 
+use crate::landmarks::MarkedPlan;
 use crate::operators::{Found, read_from};
 use pg_grammar_form::Role;
 use pg_grammar_value::Grammar;
 use pg_language_operators::{InForce, Standing};
-use pg_machine_plan::Plan;
 use pg_text::Text;
 use std::alloc::Global;
 
@@ -18,7 +18,8 @@ use std::alloc::Global;
 pub(crate) struct Context<'r> {
     pub(crate) alloc: Global,
     pub(crate) grammar: &'r Grammar,
-    pub(crate) plan: &'r Plan,
+    /// The plan of the grammar, with what is known of its code.
+    pub(crate) plan: &'r MarkedPlan<'r>,
     /// The operators of the table in force.
     pub(crate) operators: &'r InForce,
     pub(crate) text: &'r Text,

@@ -7,6 +7,7 @@ mod context;
 mod expressions;
 mod frame;
 mod infix;
+mod landmarks;
 mod laws;
 mod linking;
 mod operators;
@@ -21,8 +22,10 @@ mod trees;
 mod turn;
 
 pub use frame::{Before, Frame, Operation};
+pub use landmarks::{Landmark, MarkedPlan};
 pub use laws::{code_answers, tapes_answer};
 pub use operators::Found;
+pub use passing::RowEnd;
 pub use reading::Reading;
 pub use run::attempt;
 pub use running::Running;

@@ -2,7 +2,8 @@
 
 ghost use Rattle.std.specs.Prelude.{◌≡◌, ℕ, List, slice_get, IfSome};
 ghost use Rattle.pg_machine_plan.specs.declared.instruction.Instruction.TheVariants.{ReadPrefix, ReadPostfix, ReadInfix, Settle};
-ghost use Rattle.pg_machine_quick.specs.Looks.{IsLook, IsPassedEnd, IsPassedFirst, IsPassedTo, IsRowEnd, Passes, program_of};
+ghost use Rattle.pg_machine_quick.specs.Landmarks.{IsRowEnd};
+ghost use Rattle.pg_machine_quick.specs.Looks.{IsLook, IsPassedEnd, IsPassedFirst, IsPassedTo, Passes, program_of};
 ghost use Rattle.pg_machine_quick.specs.Ran.{LeadsTo};
 ghost use Rattle.pg_machine_quick.specs.Running.{shown};
 ghost use Rattle.pg_machine_quick.specs.Tape.{tape_act, tape_goes};
@@ -55,7 +56,7 @@ impl<'a> Running<'a> {
         requires place { look.place ≡ self.now.place }
         ensures { IfSome result (IsPassedTo look.entry (shown self.now) pc) }
     {
-        let end = row_end_at(look.context.plan, pc)?;
+        let end = look.context.plan.row_end(pc)?;
         let _builders = builders_at(look.context.grammar, end.node)?;
         let infix = infix_rank(end.row)?;
         let next = row_end_length(look, end.row)?.checked_add(pc)?;
@@ -146,7 +147,7 @@ pub struct RowEnd {
 }
 
 /// The end of a row of an expression, if its three instructions are there.
-fn row_end_at(plan: &Plan, pc: usize) -> Option<RowEnd>
+pub(crate) fn row_end_at(plan: &Plan, pc: usize) -> Option<RowEnd>
     ensures { IfSome result (IsRowEnd plan.now pc) }
 {
     let Some(Instruction::Settle(_, node, rank)) = plan.code().get(pc) else {

@@ -27,6 +27,7 @@ pub enum Reading {
 }
 
 /// What the leaf at a node reads at the place. None where the node isn't a leaf, or where the text declares an operator, since the table changes then.
+#[inline(always)]
 pub(crate) fn reading_at(
     grammar: &Grammar,
     text: &Text,
@@ -48,6 +49,7 @@ pub(crate) fn reading_at(
 }
 
 /// Reads one character of the node's class.
+#[inline(always)]
 pub(crate) fn satisfy(grammar: &Grammar, text: &Text, node: NodeId, place: usize) -> Reading
     ensures { (table : Table) → Reads text.now table place (satisfy_outcome grammar.now text.now (class_at grammar.now (ClassSite.Node node)) (spot_at table place)) result }
 {
@@ -64,6 +66,7 @@ pub(crate) fn satisfy(grammar: &Grammar, text: &Text, node: NodeId, place: usize
 }
 
 /// Checks that no character of the node's class comes next.
+#[inline(never)]
 pub(crate) fn not_followed(grammar: &Grammar, text: &Text, node: NodeId, place: usize) -> Reading
     ensures { (table : Table) → Reads text.now table place (not_followed_outcome grammar.now text.now (class_at grammar.now (ClassSite.Node node)) (spot_at table place)) result }
 {
@@ -91,6 +94,7 @@ pub(crate) fn end(text: &Text, place: usize) -> Reading
 }
 
 /// Reads all of these characters, one after another.
+#[inline(never)]
 pub(crate) fn string(text: &Text, characters: &[char], place: usize) -> Reading
     ensures { (table : Table) → Reads text.now table place (string_outcome text.now characters.now (spot_at table place)) result }
 {
@@ -103,6 +107,7 @@ pub(crate) fn string(text: &Text, characters: &[char], place: usize) -> Reading
 }
 
 /// How a declaration fails. None where the text declares an operator.
+#[inline(never)]
 fn undeclared(grammar: &Grammar, text: &Text, node: NodeId, place: usize) -> Option<Reading>
     ensures { IfSome result (λ reading. (table : Table) → IsUndeclaredAt grammar.now text.now table place (class_at grammar.now (ClassSite.Node node)) reading) }
 {
@@ -116,6 +121,7 @@ fn undeclared(grammar: &Grammar, text: &Text, node: NodeId, place: usize) -> Opt
 }
 
 /// Reads a word of the item with this number. None where there is no such item.
+#[inline(never)]
 fn word(grammar: &Grammar, text: &Text, number: WordId, place: usize) -> Option<Reading>
     ensures { IfSome result (λ reading. (table : Table) → IsWordReadAt grammar.now text.now table place number reading) }
 {
@@ -174,6 +180,7 @@ pub(crate) fn after(characters: &[char], place: usize) -> &[char]
 }
 
 /// How many characters of the class stand at the front, one after another.
+#[inline(always)]
 pub(crate) fn counted(grammar: &Grammar, class: ClassSite, characters: &[char]) -> usize
     ensures value { result ≡ prefix_len (has_character grammar.now.classes (class_at grammar.now class)) characters.now }
     ensures within { result ≤ length characters.now }

@@ -8,11 +8,12 @@ ghost use Rattle.pg_machine_quick.specs.Tape.{found_at, tape_act, tape_by_builde
 ghost use Rattle.pg_table.specs.Tables.{Table};
 
 use crate::context::{Context, Look, look_at};
+use crate::landmarks::MarkedPlan;
 use crate::running::Running;
 use crate::step::Step;
 use pg_grammar_form::{Form, NodeId, OperatorBuilders, Role};
 use pg_grammar_value::Grammar;
-use pg_machine_plan::{Instruction, Keep, Plan};
+use pg_machine_plan::{Instruction, Keep};
 use pg_text::Text;
 use std::alloc::{AllocError, Global};
 
@@ -168,7 +169,7 @@ impl<'a> Running<'a> {
 }
 
 /// The instruction there, if it is one of rows.
-fn row_instruction(plan: &Plan, pc: usize) -> Option<Instruction>
+fn row_instruction(plan: &MarkedPlan<'_>, pc: usize) -> Option<Instruction>
     ensures { IfSome result (λ instruction. slice_get plan.now.code pc ≡ Some instruction) }
 {
     let instruction = plan.code().get(pc)?;
@@ -180,7 +181,7 @@ fn row_instruction(plan: &Plan, pc: usize) -> Option<Instruction>
 }
 
 /// The instruction there, if there is one.
-pub(crate) fn instruction_at(plan: &Plan, pc: usize) -> Option<&Instruction>
+pub(crate) fn instruction_at<'p>(plan: &'p MarkedPlan<'_>, pc: usize) -> Option<&'p Instruction>
     ensures { IfSome result (λ instruction. slice_get plan.now.code pc ≡ Some instruction.now) }
 {
     plan.code().get(pc)

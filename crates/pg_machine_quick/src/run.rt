@@ -12,6 +12,7 @@ ghost use Rattle.pg_table.specs.Tables.{Table as Value};
 
 use crate::context::Context;
 use crate::frame::Frame;
+use crate::landmarks::MarkedPlan;
 use crate::laws::tapes_answer;
 use crate::running::Running;
 use crate::step::Step;
@@ -39,10 +40,11 @@ pub fn attempt<'a>(
 {
     tapes_answer();
     let operators = InForce::of(alloc, table)?;
+    let marked = MarkedPlan::of(alloc, plan, text.len())?;
     let context = Context {
         alloc,
         grammar,
-        plan,
+        plan: &marked,
         operators: &operators,
         text,
     };
@@ -69,16 +71,22 @@ fn stopped<'a>(
 }
 
 /// The state in which a run begins.
-fn first<'a>(alloc: Global, plan: &Plan, text: &'a Text) -> Result<Running<'a>, AllocError>
+fn first<'a>(
+    alloc: Global,
+    plan: &MarkedPlan<'_>,
+    text: &'a Text,
+) -> Result<Running<'a>, AllocError>
     ensures { IfOk result (λ s. shown s ≡ tape plan.now.entry 0 (Returns 0 ∷ []) [] 0 false) }
 {
     let mut frames = Vec::new(alloc);
     frames.push(Frame::Returns(0))?;
+    let mut trees = PlacedForest::new(alloc, text.characters());
+    trees.reserve()?;
     Ok(Running {
         pc: plan.entry(),
         place: 0,
         frames,
-        trees: PlacedForest::new(alloc, text.characters()),
+        trees,
         nodes: 0,
         taken: false,
     })

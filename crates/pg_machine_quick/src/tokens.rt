@@ -7,14 +7,16 @@ ghost use Rattle.pg_grammar_form.specs.declared.form.Around.TheVariants.{Text};
 ghost use Rattle.pg_grammar_form.specs.declared.form.Form.TheVariants.{Around};
 ghost use Rattle.pg_language.specs.Derives.{made_by};
 ghost use Rattle.pg_machine_plan.specs.declared.instruction.Instruction.TheVariants.{Open};
+ghost use Rattle.pg_machine_quick.specs.Landmarks.{IsToken, IsWrapped};
 ghost use Rattle.pg_machine_quick.specs.Looks.{Leads};
 ghost use Rattle.pg_machine_quick.specs.Running.{shown, Does};
 ghost use Rattle.pg_machine_quick.specs.Tape.{tape, tape_goes};
-ghost use Rattle.pg_machine_quick.specs.Tokens.{IsTaken, IsText, IsToken, IsWrapped, Takes, TakesAll, tape_wrapped, token_tape, wrapped_tape};
+ghost use Rattle.pg_machine_quick.specs.Tokens.{IsTaken, IsText, Takes, TakesAll, tape_wrapped, token_tape, wrapped_tape};
 ghost use Rattle.pg_machine_quick.specs.Turns.{added};
 
 use crate::context::Context;
 use crate::frame::Before;
+use crate::landmarks::Landmark;
 use crate::reading::{Reading, after, counted, reading_at};
 use crate::running::Running;
 use crate::step::Step;
@@ -68,20 +70,14 @@ impl<'a> Running<'a> {
         requires { slice_get context.plan.now.code self.old.pc ≡ Some (Open counts) }
         ensures { IfOk result (λ step. Leads context.entry (shown self.old) step (shown self.new)) }
     {
-        match token_at(context.plan, self.pc) {
-            Some(token) => self.begin_token(context, counts, token),
-            None => self.begin_around(context, counts),
-        }
-    }
-
-    /// Begins a form around a part, or takes one around a token at once.
-    fn begin_around(&mut self, context: Context<'_>, counts: bool) -> Result<Step, AllocError>
-        requires { slice_get context.plan.now.code self.old.pc ≡ Some (Open counts) }
-        ensures { IfOk result (λ step. Leads context.entry (shown self.old) step (shown self.new)) }
-    {
-        match wrapped_at(context.plan, self.pc) {
-            Some(wrapped) => self.begin_wrapped(context, counts, wrapped),
-            None => self.begin_part(context, counts),
+        match context.plan.landmark(self.pc) {
+            Some(Landmark::BeginsToken(token)) => self.begin_token(context, counts, *token),
+            Some(Landmark::BeginsWrapped(wrapped)) => {
+                self.begin_wrapped(context, counts, *wrapped)
+            }
+            Some(Landmark::Plain | Landmark::EndsRow(_)) | None => {
+                self.begin_part(context, counts)
+            }
         }
     }
 
@@ -236,7 +232,7 @@ impl<'a> Running<'a> {
 }
 
 /// The token whose form begins there, if its code is one's.
-fn token_at(plan: &Plan, pc: usize) -> Option<Token>
+pub(crate) fn token_at(plan: &Plan, pc: usize) -> Option<Token>
     ensures { IfSome result (IsToken plan.now pc) }
 {
     let second = pc.checked_add(1)?;
@@ -264,7 +260,7 @@ fn token_at(plan: &Plan, pc: usize) -> Option<Token>
 }
 
 /// The form around a token that begins there, if its code is one's.
-fn wrapped_at(plan: &Plan, pc: usize) -> Option<Wrapped>
+pub(crate) fn wrapped_at(plan: &Plan, pc: usize) -> Option<Wrapped>
     ensures { IfSome result (IsWrapped plan.now pc) }
 {
     let inner = pc.checked_add(1)?;
@@ -283,6 +279,7 @@ fn wrapped_at(plan: &Plan, pc: usize) -> Option<Wrapped>
 }
 
 /// What a token takes at a place of the text. None where its leaf doesn't take anything, or where its form isn't `text`.
+#[inline(always)]
 fn taken_at(context: Context<'_>, token: Token, place: usize) -> Option<Taken>
     ensures { IfSome result (IsTaken context.entry token place) }
 {
@@ -296,6 +293,7 @@ fn taken_at(context: Context<'_>, token: Token, place: usize) -> Option<Taken>
 }
 
 /// How many characters the leaf at a node takes at a place, if it takes any.
+#[inline(always)]
 fn taken_first(context: Context<'_>, node: NodeId, place: usize) -> Option<usize>
     ensures { IfSome result (Takes context.entry node place) }
 {
@@ -307,6 +305,7 @@ fn taken_first(context: Context<'_>, node: NodeId, place: usize) -> Option<usize
 }
 
 /// All characters from a place on of the class of the leaf at a node, one after another. None where the leaf has no class.
+#[inline(always)]
 fn taken_more<'r>(context: Context<'r>, node: NodeId, place: usize) -> Option<&'r [char]>
     ensures { IfSome result (λ cs. TakesAll context.entry node place cs.now) }
 {
@@ -337,6 +336,7 @@ fn taken_more<'r>(context: Context<'r>, node: NodeId, place: usize) -> Option<&'
 }
 
 /// The part of the form at a node, if that is a form `text`.
+#[inline(always)]
 fn text_at(context: Context<'_>, node: NodeId) -> Option<NodeId>
     ensures { IfSome result (λ part. IsText context.entry node) }
 {

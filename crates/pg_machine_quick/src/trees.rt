@@ -237,6 +237,7 @@ fn is_some_character(characters: &[char]) -> bool
 }
 
 /// What a form makes of the trees since it began, where trees are kept; elsewhere they are dropped. Says whether it did.
+#[inline(always)]
 pub(crate) fn make(
     trees: &mut PlacedForest<'_>,
     keep: Keep,
@@ -260,6 +261,7 @@ pub(crate) fn make(
 }
 
 /// What a form makes of the trees since it began. Says whether it did.
+#[inline(always)]
 fn make_kept(
     trees: &mut PlacedForest<'_>,
     around: &Around,

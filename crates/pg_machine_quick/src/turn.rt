@@ -81,7 +81,7 @@ impl<'a> Running<'a> {
             Instruction::Span(keep, node) => self.span_node(*keep, grammar, text, *node),
             Instruction::Jump(target) => Ok(self.jump(*target)),
             Instruction::Pick(table) => Ok(self.pick(arm_for(
-                context.plan,
+                context.plan.plan(),
                 *table,
                 text.char_at(self.place),
             ))),

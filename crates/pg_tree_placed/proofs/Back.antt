@@ -12,9 +12,9 @@ use Rattle.pg_tree.specs.Json.{quoted, json_tree, json_kids}
 use Rattle.pg_tree.proofs.Flattening.{with_kids-no_trees, with_kids-assoc, kids_of-append, flattened-tree}
 use Rattle.pg_tree_placed.specs.Named.{label_at}
 use Rattle.pg_tree_placed.specs.Made.{text_between, kids_taken, kids_from, tree_made, with_entry}
-use Rattle.pg_tree_placed.specs.Written.{comma, back_text, back_of, lifted, kids_left, nodes_left, joined_left, left_text, HaveKids, one_less, with_one_less, is_zero, less, lifts, with_lifted, closing, added_text, outside, within, GoesBack, NodeBack}
+use Rattle.pg_tree_placed.specs.Written.{comma, back_text, back_of, lifted, kids_left, nodes_left, joined_left, left_text, HaveKids, one_less, with_one_less, is_zero, less, lifts, with_lifted, closing, single_text_if, added_text, outside, within, GoesBack, NodeBack}
 use Rattle.pg_tree_placed.specs.declared.entry.Entry.{Entry}
-use Rattle.pg_tree_placed.specs.declared.entry.Entry.TheVariants.{Leaf, Node, Flat, Join}
+use Rattle.pg_tree_placed.specs.declared.entry.Entry.TheVariants.{Leaf, Node, Flat, Single, Join}
 use Rattle.pg_tree_placed.specs.declared.pending.Around.{Around}
 use Rattle.pg_tree_placed.specs.declared.stepping.Left.{Left}
 use Rattle.pg_tree_placed.proofs.BackText.{back-kids}
@@ -98,6 +98,7 @@ text-made : (text : List ℕ) (labels : List (List ℕ)) (ts : List Tree) (e : E
 text-made text labels ts (Leaf from to) = refl
 text-made text labels ts (Node label kids) = sym (append-nil (kids_text (kids_from kids ts)))
 text-made text labels ts (Flat label kids) = text-flattened (label_at labels label) (kids_from kids ts) ∙ sym (append-nil (kids_text (kids_from kids ts)))
+text-made text labels ts (Single label from to) = append-nil (text_between text from to)
 text-made text labels ts (Join kids) = sym (append-nil (kids_text (kids_from kids ts)))
 
 from-add : (k j : ℕ) (ts : List Tree) → kids_from (k + j) ts ≡ with_kids (kids_from j (drop k ts)) (kids_from k ts)
@@ -351,3 +352,45 @@ flat_back text labels s z cs ds label k old new out h it ts =
     let l = label_at labels label in
     node-step labels s z cs ds (around 0 k label) (with_entry text labels ts (Flat label k)) ts old new (lifts labels cs l) out refl
     (λ not. flat-shown labels s.later cs label k ts h not) (λ is. flat-lifted labels s.later cs l ts k h is) it
+
+-- a node around a leaf: it is written, or its leaf is
+lifted-one-less : (labels : List (List ℕ)) (cs : List Around) (m : List ℕ) → lifts labels cs m ≡ true → with_one_less (with_lifted 1 0 cs) ≡ with_one_less cs
+lifted-one-less labels [] m is = true_no is
+lifted-one-less labels (c ∷ cs) m is = ap (λ d. d ∷ cs) (one c.plain c.flat c.label is)
+  where
+    one : (p f l : ℕ) → (is_zero p && bytes_eq m (label_at labels l)) ≡ true → one_less 1 (0 + less f) l ≡ one_less p f l
+    one zero zero l it = refl
+    one zero (suc n) l it = ap (λ k. around 0 k l) (let e : 0 + n ≡ n = omega arith in e)
+    one (suc p) f l it = true_no it
+
+lifted-kids : (cs : List Around) → HaveKids (with_lifted 1 0 cs)
+lifted-kids [] = tt
+lifted-kids (c ∷ cs) = omega arith
+
+single-step : (labels : List (List ℕ)) (later : Bool) (cs : List Around) (l x : List ℕ) (ts : List Tree) (b : Bool) → HaveKids cs → lifts labels cs l ≡ b
+    → nodes_left labels later cs (node l (tree (leaf x) no_trees) ∷ ts)
+    ≡ nodes_left labels true (with_one_less cs) ts ++ (cond b (quoted x) (codes "{\"kids\":[" ++ (quoted x ++ closing l)) ++ comma later)
+single-step labels later cs l x ts false h is =
+    shown labels later cs (node l (tree (leaf x) no_trees)) ts h (stays-node labels cs l (tree (leaf x) no_trees) ts h is)
+    ∙ ap (λ ys. nodes_left labels true (with_one_less cs) ts ++ ((codes "{\"kids\":[" ++ (ys ++ closing l)) ++ comma later)) (append-nil (quoted x))
+single-step labels later cs l x ts true h is =
+    node-lifted labels later cs l (leaf x ∷ ts) 1 h is
+    ∙ shown labels later (with_lifted 1 0 cs) (leaf x) ts (lifted-kids cs) (stays-leaf labels (with_lifted 1 0 cs) x ts (lifted-kids cs))
+    ∙ ap (λ ds. nodes_left labels true ds ts ++ (quoted x ++ comma later)) (lifted-one-less labels cs l is)
+
+pub single_back : (text : List ℕ) (labels : List (List ℕ)) (s z : Left) (cs ds : List Around) (label from to : ℕ) (b : Bool) (old new : List ℕ) → s.inside ≡ false
+    → HaveKids cs → lifts labels cs (label_at labels label) ≡ b → z ≡ outside true → ds ≡ with_one_less cs
+    → new ≡ single_text_if b text labels label from to ++ (comma s.later ++ old)
+    → GoesBack text labels s cs (Single label from to) old z ds new
+single_back text labels s z cs ds label from to b old new out h at is e n ts =
+    let x = text_between text from to in
+    let l = label_at labels label in
+    let us = node l (tree (leaf x) no_trees) ∷ ts in
+    let xs = left_text labels s cs us in
+    let own = single_text_if b text labels label from to in
+    let left = nodes_left labels true ds ts in
+    let so : xs ≡ left ++ (own ++ comma s.later) =
+    ap (λ b. cond b (joined_left labels s.joined cs us) (nodes_left labels s.later cs us)) out
+    ∙ single-step labels s.later cs l x ts b h at
+    ∙ ap (λ ys. nodes_left labels true ys ts ++ (own ++ comma s.later)) (sym e) in
+    with_left labels (xs ++ old) (outside true) z ds ts new is (before xs left own (comma s.later) old new so n)

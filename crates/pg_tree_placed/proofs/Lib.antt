@@ -1,4 +1,5 @@
 pub mod Making
+pub mod Singles
 pub mod Plain
 pub mod BackText
 pub mod Back

@@ -2,10 +2,10 @@
 use Rattle.std.proofs.Common.{◌≡◌, ◌<◌, ◌≤◌, ◌+◌, ◌-◌, ℕ, suc, List, [], ◌∷◌, ◌++◌, length, take, drop, refl, ap, sym, ◌∙◌, arith}
 use Rattle.std.proofs.lemmas.List.{get_or_append_left, length-append, length-reverse, length-drop, take-append-drop, reverse-append, drop_at, take_at, drop-drop}
 use Rattle.std.specs.Prelude.{reverse, encode_utf8_all}
-use Rattle.pg_tree.specs.Trees.{Tree, Trees, leaf, node, kids_of}
+use Rattle.pg_tree.specs.Trees.{Tree, Trees, leaf, node, no_trees, tree, kids_of}
 use Rattle.pg_tree.specs.Built.{flattened}
 use Rattle.pg_tree_placed.specs.declared.entry.Entry.{Entry}
-use Rattle.pg_tree_placed.specs.declared.entry.Entry.TheVariants.{Leaf, Node, Flat, Join}
+use Rattle.pg_tree_placed.specs.declared.entry.Entry.TheVariants.{Leaf, Node, Flat, Single, Join}
 use Rattle.pg_tree_placed.specs.Made.{text_between, kids_taken, kids_from, IsPlacedAt, tree_made, with_entry, IsNamed, made_on, Fits, AllFit}
 
 -- one step more
@@ -36,6 +36,8 @@ made-labels-tree : (text : List ℕ) (labels more : List (List ℕ)) (ks : Trees
 made-labels-tree text labels more ks (Leaf from to) it = refl
 made-labels-tree text labels more ks (Node label kids) it = ap (λ l. node l ks) (get_or_append_left labels more [] label it)
 made-labels-tree text labels more ks (Flat label kids) it = ap (λ l. node l (flattened l ks)) (get_or_append_left labels more [] label it)
+made-labels-tree text labels more ks (Single label from to) it =
+    ap (λ l. node l (tree (leaf (text_between text from to)) no_trees)) (get_or_append_left labels more [] label it)
 made-labels-tree text labels more ks (Join kids) it = refl
 
 with_entry-labels : (text : List ℕ) (labels more : List (List ℕ)) (ts : List Tree) (e : Entry)
@@ -46,6 +48,7 @@ named-labels : (labels more : List (List ℕ)) (e : Entry) → IsNamed labels e 
 named-labels labels more (Leaf from to) it = tt
 named-labels labels more (Node label kids) it = omega (arith, length-append labels more, it)
 named-labels labels more (Flat label kids) it = omega (arith, length-append labels more, it)
+named-labels labels more (Single label from to) it = omega (arith, length-append labels more, it)
 named-labels labels more (Join kids) it = tt
 
 fits-labels : (labels more : List (List ℕ)) (ts : List Tree) (e : Entry) → Fits labels ts e → Fits (labels ++ more) ts e
@@ -109,12 +112,14 @@ leaf_more text characters labels ts (Leaf from to) is =
     reverse-append (leaf (text_between text from to) ∷ []) ts ∙ ap (λ bytes. reverse ts ++ leaf bytes ∷ []) is
 leaf_more text characters labels ts (Node label kids) is = absurd is
 leaf_more text characters labels ts (Flat label kids) is = absurd is
+leaf_more text characters labels ts (Single label from to) is = absurd is
 leaf_more text characters labels ts (Join kids) is = absurd is
 
 pub leaf_fits : (text characters : List ℕ) (labels : List (List ℕ)) (ts : List Tree) (e : Entry) → IsPlacedAt text characters e → Fits labels ts e
 leaf_fits text characters labels ts (Leaf from to) is = (tt, omega arith)
 leaf_fits text characters labels ts (Node label kids) is = absurd is
 leaf_fits text characters labels ts (Flat label kids) is = absurd is
+leaf_fits text characters labels ts (Single label from to) is = absurd is
 leaf_fits text characters labels ts (Join kids) is = absurd is
 
 pub leaf_counts : (text characters : List ℕ) (labels : List (List ℕ)) (ts : List Tree) (e : Entry) → IsPlacedAt text characters e
@@ -122,6 +127,7 @@ pub leaf_counts : (text characters : List ℕ) (labels : List (List ℕ)) (ts : 
 leaf_counts text characters labels ts (Leaf from to) is = omega arith
 leaf_counts text characters labels ts (Node label kids) is = absurd is
 leaf_counts text characters labels ts (Flat label kids) is = absurd is
+leaf_counts text characters labels ts (Single label from to) is = absurd is
 leaf_counts text characters labels ts (Join kids) is = absurd is
 
 -- no more trees than steps

@@ -8,7 +8,7 @@ use Rattle.pg_tree.specs.Json.{quoted, json_tree}
 use Rattle.pg_tree_placed.specs.Made.{text_between, with_entry, kids_from}
 use Rattle.pg_tree_placed.specs.Named.{label_at}
 use Rattle.pg_tree_placed.specs.declared.entry.Entry.{Entry}
-use Rattle.pg_tree_placed.specs.declared.entry.Entry.TheVariants.{Leaf, Node, Flat, Join}
+use Rattle.pg_tree_placed.specs.declared.entry.Entry.TheVariants.{Leaf, Node, Flat, Single, Join}
 use Rattle.pg_tree_placed.specs.declared.pending.Around.{Around}
 use Rattle.pg_tree_placed.specs.declared.pending.Pending.{Pending}
 use Rattle.pg_tree_placed.specs.declared.stepping.Left.{Left}
@@ -99,11 +99,20 @@ with_lifted plain flat (c ∷ cs) = record { plain = plain; flat = flat + less c
 abbrev pub closing : List ℕ → List ℕ
 closing label = codes "],\"node\":" ++ (quoted label ++ codes "}")
 
+-- a node around a leaf
+abbrev pub single_text : List ℕ → List (List ℕ) → ℕ → ℕ → ℕ → List ℕ
+single_text text labels label from to = codes "{\"kids\":[" ++ (quoted (text_between text from to) ++ closing (label_at labels label))
+
+-- the same where a node that is bare is its leaf
+abbrev pub single_text_if : Bool → List ℕ → List (List ℕ) → ℕ → ℕ → ℕ → List ℕ
+single_text_if is_bare text labels label from to = if is_bare then quoted (text_between text from to) else single_text text labels label from to
+
 -- the text that a step adds to a leaf that is joined
 abbrev pub added_text : List ℕ → Entry → List ℕ
 added_text text (Leaf from to) = text_between text from to
 added_text text (Node label kids) = []
 added_text text (Flat label kids) = []
+added_text text (Single label from to) = text_between text from to
 added_text text (Join kids) = []
 
 -- what is left to write before `old` comes, a step back, to what is left before `new`: the step's own text stands at the front of `new`

@@ -11,6 +11,7 @@ use pg_tree::push_escaped;
 use std::alloc::AllocError;
 
 /// Writes a leaf of one byte that stands for itself, and a comma after it if one is wanted.
+#[inline(always)]
 pub(crate) fn push_plain(byte: u8, is_comma: bool, out: &mut Vec<u8>) -> Result<(), AllocError>
     ensures { OnOk result (reverse out.new.items ≡ (34 ∷ byte ∷ 34 ∷ []) ++ (comma is_comma ++ reverse out.old.items)) }
 {
@@ -22,6 +23,7 @@ pub(crate) fn push_plain(byte: u8, is_comma: bool, out: &mut Vec<u8>) -> Result<
 }
 
 /// Writes the UTF-8 text of characters in double quotes, with JSON's escapes, and a comma after it if one is wanted.
+#[inline(never)]
 pub(crate) fn push_leaf(
     characters: &[char],
     is_comma: bool,
@@ -36,6 +38,7 @@ pub(crate) fn push_leaf(
 }
 
 /// Writes what stands between the quotes.
+#[inline(never)]
 pub(crate) fn push_unquoted(characters: &[char], out: &mut Vec<u8>) -> Result<(), AllocError>
     ensures { OnOk result (reverse out.new.items ≡ escape (encode_utf8_all characters.now) ++ reverse out.old.items) }
 {

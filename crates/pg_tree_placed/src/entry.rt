@@ -12,6 +12,8 @@ pub(crate) enum Entry {
     Node(u32, u32),
     /// The same, where each kid with the same label is replaced by its own kids.
     Flat(u32, u32),
+    /// A node with the label of this number, whose one kid is a leaf of the characters between two places of the text: many tokens are.
+    Single(u16, u32, u32),
     /// A leaf of all texts of so many of the last trees.
     Join(u32),
 }
@@ -22,7 +24,7 @@ impl Entry {
         ensures { result ≡ kids_taken self }
     {
         match self {
-            Entry::Leaf(_, _) => 0,
+            Entry::Leaf(_, _) | Entry::Single(_, _, _) => 0,
             Entry::Node(_, kids) | Entry::Flat(_, kids) | Entry::Join(kids) => kids as usize,
         }
     }

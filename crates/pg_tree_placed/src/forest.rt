@@ -41,6 +41,13 @@ impl<'a> PlacedForest<'a> {
         }
     }
 
+    /// Asks for memory for the trees of most texts. The only error is that there is none.
+    pub fn reserve(&mut self) -> Result<(), AllocError>
+        ensures { self.new ≡ self.old }
+    {
+        self.store.reserve()
+    }
+
     /// How many trees there are. It takes no memory.
     pub fn len(&self) -> usize
         ensures { result ≡ length self.now }
@@ -60,6 +67,7 @@ impl<'a> PlacedForest<'a> {
 
     /// Makes the trees after the first `count` into one tree, as the shape says, with the symbol. The caller owes that there are `count` trees. Says whether
     /// it did: not if more than 32 bits count is needed. The only error is running out of memory.
+    #[inline]
     pub fn build(&mut self, shape: &Shape, symbol: &str, count: usize) -> Result<bool, AllocError>
         requires { count ≤ length self.old }
         ensures done { IfOk result (λ done. done ≡ true → self.new ≡ take count self.old ++ built shape.now symbol.now (drop count self.old) ∷ []) }

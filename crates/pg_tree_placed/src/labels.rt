@@ -1,6 +1,6 @@
 //! Labels by their numbers.
 
-ghost use Rattle.std.specs.Prelude.{◌≡◌, IfOk, IfSome};
+ghost use Rattle.std.specs.Prelude.{◌≡◌, true, IfOk, IfSome};
 ghost use Rattle.pg_tree_placed.specs.Named.{IsNumber, Extends, label_at};
 
 use pg_tree::Label;
@@ -33,11 +33,27 @@ fn found(labels: &[Label], label: &str) -> Option<usize>
     ensures { IfSome result (λ n. IsNumber labels.now n label.now) }
 {
     for i in labels.len().saturating_sub(LOOKED_AT)..labels.len() {
-        if labels[i].as_str() == label {
+        if is_text(labels[i].as_str(), label) {
             return Some(i);
         }
     }
     None
+}
+
+/// Whether a label has this text. Most others have another length.
+#[inline(always)]
+fn is_text(own: &str, text: &str) -> bool
+    ensures { result ≡ true → own.now ≡ text.now }
+{
+    own.len() == text.len() && are_equal(own, text)
+}
+
+/// Whether these texts are equal.
+#[inline(never)]
+fn are_equal(some: &str, others: &str) -> bool
+    ensures { result ≡ true → some.now ≡ others.now }
+{
+    some == others
 }
 
 /// The label with this number.

@@ -103,7 +103,27 @@ impl Pending {
     }
 
     /// Writes the opening texts of the innermost ones of which no kids are left, and drops them. Says whether a tree comes after what is left then.
+    #[inline(always)]
     pub(crate) fn begin(&mut self, later: bool, out: &mut Vec<u8>) -> Result<bool, AllocError>
+        ensures left { OnOk result (open_in self.new ≡ unfinished (open_in self.old)) }
+        ensures text { OnOk result (reverse out.new.items ≡ braces (finished (open_in self.old)) ++ reverse out.old.items) }
+        ensures later { IfOk result (λ b. b ≡ still_later later (finished (open_in self.old))) }
+    {
+        match self.top {
+            Some(top) => {
+                if is_full(top) {
+                    self.begin_full(later, out)
+                } else {
+                    Ok(later)
+                }
+            }
+            None => Ok(later),
+        }
+    }
+
+    /// The same, where the innermost one may have no kids left.
+    #[inline(never)]
+    fn begin_full(&mut self, later: bool, out: &mut Vec<u8>) -> Result<bool, AllocError>
         ensures left { OnOk result (open_in self.new ≡ unfinished (open_in self.old)) }
         ensures text { OnOk result (reverse out.new.items ≡ braces (finished (open_in self.old)) ++ reverse out.old.items) }
         ensures later { IfOk result (λ b. b ≡ still_later later (finished (open_in self.old))) }

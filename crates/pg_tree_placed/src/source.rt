@@ -5,10 +5,10 @@ ghost use Rattle.json.specs.Print.{escape};
 ghost use Rattle.pg_tree.specs.Json.{quoted};
 ghost use Rattle.pg_tree_placed.specs.Made.{text_between};
 ghost use Rattle.pg_tree_placed.specs.Named.{label_at};
-ghost use Rattle.pg_tree_placed.specs.Written.{AreClosings, closing, closing_comma, comma};
+ghost use Rattle.pg_tree_placed.specs.Written.{AreClosings, closing, closing_comma, comma, single_text_if};
 
 use crate::characters::{plain_byte, push_leaf, push_plain};
-use crate::pieces::push_comma;
+use crate::pieces::{push_brace, push_comma};
 use pg_tree::{Label, push_quoted};
 use std::alloc::{AllocError, Global};
 
@@ -22,6 +22,7 @@ pub(crate) struct Source<'a> {
 
 impl Source<'_> {
     /// Writes the closing text of a node with the label of this number, and a comma after it if one is wanted.
+    #[inline(always)]
     #[tactic(auto, using(crate::proofs::Closings::closing_pushed))]
     pub(crate) fn push_closing(
         &self,
@@ -50,6 +51,7 @@ impl Source<'_> {
     }
 
     /// Writes the leaf between two places, and a comma after it if one is wanted. Most leaves are one character that stands for itself.
+    #[inline(always)]
     pub(crate) fn push_leaf(
         &self,
         from: u32,
@@ -63,6 +65,28 @@ impl Source<'_> {
             Some(byte) => push_plain(byte, is_comma, out),
             None => push_leaf(self.between(from, to), is_comma, out),
         }
+    }
+
+    /// Writes a node with the label of this number and one kid, the leaf between two places, and a comma after it if one is wanted. A bare one is its leaf.
+    #[inline(always)]
+    pub(crate) fn push_single(
+        &self,
+        number: usize,
+        places: (u32, u32),
+        is_bare: bool,
+        is_comma: bool,
+        out: &mut Vec<u8>,
+    ) -> Result<(), AllocError>
+        requires { AreClosings self.now }
+        ensures { OnOk result (reverse out.new.items ≡ single_text_if is_bare self.now.text.now self.now.labels.now number places.0 places.1 ++ (comma is_comma ++ reverse out.old.items)) }
+    {
+        let (from, to) = places;
+        if is_bare {
+            return self.push_leaf(from, to, is_comma, out);
+        }
+        self.push_closing(number, is_comma, out)?;
+        self.push_leaf(from, to, false, out)?;
+        push_brace(out)
     }
 
     /// The byte of a leaf that is one character that stands for itself.
@@ -98,6 +122,7 @@ fn without_comma(closing: &[u8], is_comma: bool) -> &[u8]
 }
 
 /// Writes the closing text of a node whose label isn't there.
+#[inline(never)]
 fn push_nameless(is_comma: bool, out: &mut Vec<u8>) -> Result<(), AllocError>
     ensures { OnOk result (reverse out.new.items ≡ closing [] ++ (comma is_comma ++ reverse out.old.items)) }
 {

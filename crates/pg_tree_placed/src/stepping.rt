@@ -52,6 +52,7 @@ impl Source<'_> {
     }
 
     /// Goes back over a step.
+    #[inline(always)]
     #[tactic(auto, using(crate::proofs::Settling::both_back))]
     fn step_back(
         &self,
@@ -70,7 +71,8 @@ impl Source<'_> {
     }
 
     /// Goes back over a step, up to where nodes may begin.
-    #[tactic(auto, using(crate::proofs::Back::leaf_back, crate::proofs::Back::join_back, crate::proofs::Back::node_back, crate::proofs::Back::flat_back))]
+    #[inline(always)]
+    #[tactic(auto, using(crate::proofs::Back::leaf_back, crate::proofs::Back::single_back, crate::proofs::Back::join_back, crate::proofs::Back::node_back, crate::proofs::Back::flat_back))]
     fn go_back(
         &self,
         pending: &mut Pending,
@@ -89,6 +91,12 @@ impl Source<'_> {
             Entry::Leaf(from, to) => {
                 pending.take_one();
                 self.push_leaf(from, to, left.later, out)?;
+                Ok(outside(true))
+            }
+            Entry::Single(label, from, to) => {
+                let is_bare = pending.lifts(self.labels, u32::from(label));
+                pending.take_one();
+                self.push_single(usize::from(label), (from, to), is_bare, left.later, out)?;
                 Ok(outside(true))
             }
             Entry::Join(kids) => {
@@ -113,6 +121,7 @@ impl Source<'_> {
     }
 
     /// Goes back over a step inside of a joined leaf.
+    #[inline(always)]
     #[tactic(auto, using(crate::proofs::Back::inside_back))]
     fn stay_inside(&self, left: Left, entry: Entry, out: &mut Vec<u8>) -> Result<Left, AllocError>
         requires inside { left.inside ≡ true }
@@ -129,12 +138,15 @@ impl Source<'_> {
         ensures { OnOk result (reverse out.new.items ≡ escape (added_text self.now.text.now entry) ++ reverse out.old.items) }
     {
         match entry {
-            Entry::Leaf(from, to) => push_unquoted(self.between(from, to), out),
+            Entry::Leaf(from, to) | Entry::Single(_, from, to) => {
+                push_unquoted(self.between(from, to), out)
+            }
             Entry::Node(_, _) | Entry::Flat(_, _) | Entry::Join(_) => Ok(()),
         }
     }
 
     /// Goes back over a node: it is open then, or its kids stand in its place.
+    #[inline(always)]
     fn back_to_node(
         &self,
         pending: &mut Pending,
@@ -157,6 +169,7 @@ impl Source<'_> {
 }
 
 /// Begins the joined leaf of which nothing is left, and the nodes with no kids left.
+#[inline(always)]
 #[tactic(auto, using(crate::proofs::Settling::settled_inside, crate::proofs::Settling::settled_joined, crate::proofs::Settling::settled_outside, crate::proofs::Settling::unfinished_inside, crate::proofs::Settling::unfinished_outside))]
 fn settle(pending: &mut Pending, left: Left, out: &mut Vec<u8>) -> Result<Left, AllocError>
     ensures leads { IfOk result (λ z. (labels : List (List ℕ)) → Settles labels left (open_in pending.old) (reverse out.old.items) z (open_in pending.new) (reverse out.new.items)) }
@@ -173,6 +186,7 @@ fn settle(pending: &mut Pending, left: Left, out: &mut Vec<u8>) -> Result<Left, 
 }
 
 /// Begins the nodes with no kids left, outside of a joined leaf.
+#[inline(always)]
 fn begin(pending: &mut Pending, later: bool, out: &mut Vec<u8>) -> Result<Left, AllocError>
     ensures open { OnOk result (open_in pending.new ≡ unfinished (open_in pending.old)) }
     ensures text { OnOk result (reverse out.new.items ≡ braces (finished (open_in pending.old)) ++ reverse out.old.items) }

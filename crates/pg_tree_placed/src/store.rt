@@ -1,10 +1,11 @@
 //! How the trees of a forest are kept: as the steps that make them.
 
-ghost use Rattle.std.specs.Prelude.{◌≡◌, ◌≤◌, ◌+◌, ◌++◌, if◌then◌else◌, ◌∷◌, [], true, false, length, drop, take, encode_utf8_all, IfOk, IfSome, OnOk, OnErr};
+ghost use Rattle.std.specs.Prelude.{◌≡◌, ◌≤◌, ◌<◌, ◌+◌, List, ◌++◌, if◌then◌else◌, ◌∷◌, [], true, false, length, drop, take, encode_utf8_all, IfOk, IfSome, OnOk, OnErr};
 ghost use Rattle.pg_tree.specs.Trees.{leaf, node, kids_of};
 ghost use Rattle.pg_tree.specs.Built.{kids_text};
-ghost use Rattle.pg_tree_placed.specs.Made.{made, trees_in, kids_taken, tree_made, kids_if, IsNamed, with_entry, Fits, IsWhole, IsPlacedAt};
-ghost use Rattle.pg_tree_placed.specs.Named.{IsNumber};
+ghost use Rattle.pg_tree_placed.specs.Made.{made, trees_in, kids_taken, tree_made, kids_if, IsNamed, with_entry, Fits, IsWhole, IsPlacedAt, IsAround, IsSingle};
+ghost use Rattle.pg_tree_placed.specs.Named.{IsNumber, label_at};
+ghost use Rattle.pg_tree_placed.specs.declared.entry.Entry.{Entry};
 ghost use Rattle.pg_tree_placed.specs.declared.entry.Entry.TheVariants.{Node, Flat};
 
 use crate::entry::Entry;
@@ -37,6 +38,15 @@ impl<'a> Store<'a> {
         }
     }
 
+    /// Asks for memory for the steps of most texts: few take more than two for a character, and what isn't used costs nothing.
+    pub(crate) fn reserve(&mut self) -> Result<(), AllocError>
+        requires { IsWhole self.old }
+        ensures same { made self.new ≡ made self.old }
+        ensures whole { IsWhole self.new }
+    {
+        self.entries.reserve(self.text.len().saturating_mul(2))
+    }
+
     /// Appends a leaf of these characters, if they stand in the text from this place on. Says whether it did.
     #[tactic(auto, using(crate::proofs::Making::leaf_more, crate::proofs::Making::leaf_fits, crate::proofs::Making::leaf_counts))]
     pub(crate) fn push_leaf(&mut self, characters: &[char], from: usize) -> Result<bool, AllocError>
@@ -65,8 +75,7 @@ impl<'a> Store<'a> {
         ensures err { OnErr result (made self.new ≡ made self.old) }
         ensures whole { IsWhole self.new }
     {
-        // Few texts take more steps than two for a character.
-        push_entry(&mut self.entries, entry, self.text.len().saturating_mul(2))?;
+        push_entry(&mut self.entries, entry)?;
         self.roots = roots;
         Ok(())
     }
@@ -114,10 +123,38 @@ impl<'a> Store<'a> {
         ensures whole { IsWhole self.new }
     {
         let number = self.number(label)?;
+        match self.single(number, count) {
+            Some(entry) => {
+                put_last(&mut self.entries, entry);
+                Ok(true)
+            }
+            None => self.wrap_by(number, is_flat, count),
+        }
+    }
+
+    /// The same, by the label's number.
+    fn wrap_by(&mut self, number: usize, is_flat: bool, count: usize) -> Result<bool, AllocError>
+        requires whole { IsWhole self.old }
+        requires there { number < length self.old.labels.items }
+        requires within { count ≤ length (made self.old) }
+        ensures done { IfOk result (λ done. done ≡ true → trees_in self.new
+            ≡ take count (trees_in self.old) ++ node (label_at self.old.labels.items number) (kids_if is_flat (label_at self.old.labels.items number) (kids_of (drop count (trees_in self.old)))) ∷ []) }
+        ensures whole { IsWhole self.new }
+    {
         match node_of(number, self.roots - count, is_flat) {
             Some(entry) => self.make(entry, count),
             None => Ok(false),
         }
+    }
+
+    /// The step that makes a node with the label of this number around the last tree, if that is a leaf and the only tree after the first `count`.
+    fn single(&self, number: usize, count: usize) -> Option<Entry>
+        ensures { IfSome result (IsSingle self.now number count) }
+    {
+        if count >= self.roots || self.roots - count != 1 {
+            return None;
+        }
+        single_of(number, *self.entries.last()?)
     }
 
     /// Makes the trees after the first `count` into one leaf of all their texts. Says whether it did; too many to count are left as they are.
@@ -149,14 +186,11 @@ impl<'a> Store<'a> {
     }
 }
 
-/// Appends a step. With the first one, memory for so many is asked for: what isn't used costs nothing.
-fn push_entry(entries: &mut Vec<Entry>, entry: Entry, room: usize) -> Result<(), AllocError>
+/// Appends a step.
+fn push_entry(entries: &mut Vec<Entry>, entry: Entry) -> Result<(), AllocError>
     ensures ok { OnOk result (entries.new.items ≡ entries.old.items ++ entry ∷ []) }
     ensures err { OnErr result (entries.new.items ≡ entries.old.items) }
 {
-    if entries.is_empty() {
-        entries.reserve(room)?;
-    }
     entries.push(entry)?;
     Ok(())
 }
@@ -166,12 +200,44 @@ fn leaf_of(text: &[char], characters: &[char], from: usize) -> Option<Entry>
     ensures { IfSome result (λ entry. IsPlacedAt text.now characters.now entry) }
 {
     let to = from.checked_add(characters.len())?;
-    if to > text.len() || &text[from..to] != characters {
+    if to > text.len() || !are_same(&text[from..to], characters) {
         return None;
     }
     match (u32::try_from(from), u32::try_from(to)) {
         (Ok(from), Ok(to)) => Some(Entry::Leaf(from, to)),
         (Ok(_) | Err(_), _) => None,
+    }
+}
+
+/// Whether these are the same characters. One is compared at once, since most leaves are short.
+fn are_same(some: &[char], others: &[char]) -> bool
+    ensures { result ≡ true → some.now ≡ others.now }
+{
+    match (some, others) {
+        ([one], [other]) => *one == *other,
+        (_, _) => some == others,
+    }
+}
+
+/// The step that makes a node with the label of this number around the leaf that another step makes.
+fn single_of(number: usize, last: Entry) -> Option<Entry>
+    ensures { IfSome result (IsAround number last) }
+{
+    match last {
+        Entry::Leaf(from, to) => match u16::try_from(number) {
+            Ok(label) => Some(Entry::Single(label, from, to)),
+            Err(_) => None,
+        },
+        Entry::Node(_, _) | Entry::Flat(_, _) | Entry::Single(_, _, _) | Entry::Join(_) => None,
+    }
+}
+
+/// Puts a step in the place of the last one.
+fn put_last(entries: &mut Vec<Entry>, entry: Entry)
+    ensures { (before : List Entry) (last : Entry) → entries.old.items ≡ before ++ last ∷ [] → entries.new.items ≡ before ++ entry ∷ [] }
+{
+    if let Some(last) = entries.len().checked_sub(1) {
+        entries[last] = entry;
     }
 }
 

@@ -1,7 +1,7 @@
 use Rattle.std.proofs.Common.{◌≡◌, ◌++◌, length, reverse}
 use Rattle.pg_tree.specs.Written.{braces}
 use Rattle.pg_tree_placed.specs.Written.{open_in, finished, unfinished, still_later}
-use Rattle.pg_tree_placed.proofs.pending.Pending.begin.Given as goal
+use Rattle.pg_tree_placed.proofs.pending.Pending.begin_full.Given as goal
 
 abbrev pub invariant-loop-self : goal.invariant-loop-self
 invariant-loop-self l = record {

@@ -5,7 +5,7 @@ use Rattle.pg_tree_placed.specs.declared.pending.Around.{Around}
 use Rattle.pg_tree_placed.specs.Written.{innermost_first, open_in, is_full, finished, unfinished, still_later}
 use Rattle.pg_tree_placed.proofs.Settling.{still_true}
 use Rattle.pg_tree_placed.proofs.Opened.{popped}
-use Rattle.pg_tree_placed.proofs.pending.Pending.begin.Goals as goal
+use Rattle.pg_tree_placed.proofs.pending.Pending.begin_full.Goals as goal
 
 pub loop-self-preserved : goal.loop-self-preserved
 loop-self-preserved c =
