@@ -1,4 +1,5 @@
 pub mod Parses
+pub mod ReadTexts
 pub mod Loaded
 pub mod Shown
 pub mod ShownTexts

@@ -1,16 +1,18 @@
--- The pieces of a text, from what was parsed and from what was read.
-use Rattle.std.proofs.Common.{◌≡◌, ◌++◌, ℕ, List, Bool, true, false, Option, refl, sym, ap, subst}
-use Rattle.std.specs.Prelude.{codes}
-use Rattle.std.specs.Io.KnownBytes.{Appends, Consumes, IsAtEnd}
+-- The pieces of a text, from what was parsed, and what was written of them.
+use Rattle.std.proofs.Common.{◌≡◌, ◌++◌, ℕ, List, Bool, true, false, Option, Result, sym, subst}
+use Rattle.std.specs.Prelude.{codes, OnErr}
+use Rattle.std.proofs.lemmas.Result.{on_err_weaker}
+use Rattle.pg_text_pieces.proofs.Puts.{prefix_after}
+use Rattle.std.specs.Io.KnownBytes.{Appends}
 use Rattle.pg_tree.specs.Bytes.{AppendsPrefix}
 use Rattle.pg_tree.specs.Json.{json}
 use Rattle.pg_tree.specs.Trees.{Tree}
 use Rattle.pg_grammar_value.specs.Grammar.{Grammar}
 use Rattle.pg_grammar_value.specs.declared.trail.TrailItem.{TrailItem}
-use Rattle.pg_bench.specs.Parsed.{ArePieces, AreJsonPieces, json_if, IsLineBy, IsPartlyLineBy, line_front, IsSpelledBy, IsForestOfBytes, IsForestBy, HasForestBy, IsParsedBy, IsPartlyParsedBy, IfRead, after_forest, parse_text}
+use Rattle.pg_bench.specs.Parsed.{AreJsonPieces, json_if, line_front, IfRead, after_forest}
+use Rattle.pg_bench.specs.Pieces.{IsCostOfText, IsParsedText, IsPartlyParsedText, IsLineOfText, IsPartlyLineOfText}
 use Rattle.pg_bench.specs.Promise.{IsForestOfText, HasForestOfText}
 use Rattle.pg_bench.specs.declared.done.Done.{Done}
-use Rattle.pg_bench.proofs.Parses.{bytes_forest}
 
 -- of a forest whose trail isn't wanted
 pub quick_pieces : (g : Grammar) (text : List ℕ) (with_json : Bool) (forest : List Tree) (page rest : List ℕ) (d done : Done) → HasForestOfText g text forest d →
@@ -31,31 +33,15 @@ run_pieces g text with_json with_trail forest trail page rest d done is one same
   page_is = one;
 }
 
-pub bytes_pieces : (g : Grammar) (bytes text : List ℕ) (with_json with_trail : Bool) (page rest : List ℕ) (done : Done) → IsSpelledBy bytes text →
-    AreJsonPieces (IsForestOfText g text) with_json with_trail page rest done → AreJsonPieces (IsForestOfBytes g bytes) with_json with_trail page rest done
-bytes_pieces g bytes text with_json with_trail page rest done spelled p = let q = p.pieces in record {
-  forest = p.forest;
-  pieces = record { trail = q.trail; is = bytes_forest g bytes text p.forest q.trail done spelled q.is; rest_is = q.rest_is; read = q.read };
-  page_is = p.page_is;
-}
-
-pub reader_pieces : (g : Grammar) (reader left : Option (List ℕ)) (bytes : List ℕ) (with_json with_trail : Bool) (page rest : List ℕ) (done : Done) → Consumes reader left bytes →
-    IsAtEnd left → AreJsonPieces (IsForestOfBytes g bytes) with_json with_trail page rest done → AreJsonPieces (IsForestBy g reader left) with_json with_trail page rest done
-reader_pieces g reader left bytes with_json with_trail page rest done read end p = let q = p.pieces in record {
-  forest = p.forest;
-  pieces = record { trail = q.trail; is = (bytes, read, end, q.is); rest_is = q.rest_is; read = q.read };
-  page_is = p.page_is;
-}
-
 -- so the text is derived
-pub cost_of_pieces : (g : Grammar) (reader left : Option (List ℕ)) (with_json with_trail : Bool) (page rest : List ℕ) (done : Done) →
-    AreJsonPieces (IsForestBy g reader left) with_json with_trail page rest done → HasForestBy g reader left done
-cost_of_pieces g reader left with_json with_trail page rest done p = (p.forest, p.pieces.trail, p.pieces.is)
+pub cost_of_pieces : (g : Grammar) (text : List ℕ) (with_json with_trail : Bool) (page rest : List ℕ) (done : Done) →
+    AreJsonPieces (IsForestOfText g text) with_json with_trail page rest done → IsCostOfText g text done
+cost_of_pieces g text with_json with_trail page rest done p = record { forest = p.forest; trail = p.pieces.trail; is = p.pieces.is }
 
 -- they were written
-pub parsed_pieces : (g : Grammar) (reader left : Option (List ℕ)) (with_trail : Bool) (writer held : Option (List ℕ)) (page rest : List ℕ) (done : Done) →
-    AreJsonPieces (IsForestBy g reader left) true with_trail page rest done → Appends writer held (page ++ rest) → IsParsedBy g reader left with_trail writer held done
-parsed_pieces g reader left with_trail writer held page rest done p written = record {
+pub parsed_pieces : (g : Grammar) (text : List ℕ) (with_trail : Bool) (writer held : Option (List ℕ)) (page rest : List ℕ) (done : Done) →
+    AreJsonPieces (IsForestOfText g text) true with_trail page rest done → Appends writer held (page ++ rest) → IsParsedText g text with_trail writer held done
+parsed_pieces g text with_trail writer held page rest done p written = record {
   forest = p.forest;
   trail = p.pieces.trail;
   parsed = p.pieces.is;
@@ -64,9 +50,9 @@ parsed_pieces g reader left with_trail writer held page rest done p written = re
 }
 
 -- a prefix of them was written
-pub partly_pieces : (g : Grammar) (reader left : Option (List ℕ)) (with_trail : Bool) (writer held : Option (List ℕ)) (page rest : List ℕ) (done : Done) →
-    AreJsonPieces (IsForestBy g reader left) true with_trail page rest done → AppendsPrefix writer held (page ++ rest) → IsPartlyParsedBy g reader left with_trail writer held
-partly_pieces g reader left with_trail writer held page rest done p written = record {
+pub partly_pieces : (g : Grammar) (text : List ℕ) (with_trail : Bool) (writer held : Option (List ℕ)) (page rest : List ℕ) (done : Done) →
+    AreJsonPieces (IsForestOfText g text) true with_trail page rest done → AppendsPrefix writer held (page ++ rest) → IsPartlyParsedText g text with_trail writer held
+partly_pieces g text with_trail writer held page rest done p written = record {
   forest = p.forest;
   trail = p.pieces.trail;
   done = done;
@@ -76,9 +62,9 @@ partly_pieces g reader left with_trail writer held page rest done p written = re
 }
 
 -- their line was written
-pub line_pieces : (g : Grammar) (reader left : Option (List ℕ)) (name : List ℕ) (writer held : Option (List ℕ)) (page rest : List ℕ) (done : Done) →
-    AreJsonPieces (IsForestBy g reader left) true false page rest done → Appends writer held (line_front name ++ (page ++ codes "}\n")) → IsLineBy g reader left name writer held done
-line_pieces g reader left name writer held page rest done p written = record {
+pub line_pieces : (g : Grammar) (text name : List ℕ) (writer held : Option (List ℕ)) (page rest : List ℕ) (done : Done) →
+    AreJsonPieces (IsForestOfText g text) true false page rest done → Appends writer held (line_front name ++ (page ++ codes "}\n")) → IsLineOfText g text name writer held done
+line_pieces g text name writer held page rest done p written = record {
   forest = p.forest;
   trail = p.pieces.trail;
   parsed = p.pieces.is;
@@ -86,13 +72,18 @@ line_pieces g reader left name writer held page rest done p written = record {
 }
 
 -- a prefix of their line was written
-pub partly_line_pieces : (g : Grammar) (reader left : Option (List ℕ)) (name : List ℕ) (writer held : Option (List ℕ)) (page rest : List ℕ) (done : Done) →
-    AreJsonPieces (IsForestBy g reader left) true false page rest done → AppendsPrefix writer held (line_front name ++ (page ++ codes "}\n")) →
-    IsPartlyLineBy g reader left name writer held
-partly_line_pieces g reader left name writer held page rest done p written = record {
+pub partly_line_pieces : (g : Grammar) (text name : List ℕ) (writer held : Option (List ℕ)) (page rest : List ℕ) (done : Done) →
+    AreJsonPieces (IsForestOfText g text) true false page rest done → AppendsPrefix writer held (line_front name ++ (page ++ codes "}\n")) →
+    IsPartlyLineOfText g text name writer held
+partly_line_pieces g text name writer held page rest done p written = record {
   forest = p.forest;
   trail = p.pieces.trail;
   done = done;
   parsed = p.pieces.is;
   written = subst (λ (x : List ℕ). AppendsPrefix writer held (line_front name ++ (x ++ codes "}\n"))) p.page_is written;
 }
+
+-- all of some bytes were written, and then a prefix of others if that failed
+pub prefix_of_both : {T E : Type 0} (r : Result T E) (old middle new : Option (List ℕ)) (bytes more : List ℕ) → Appends old middle bytes →
+    OnErr r (AppendsPrefix middle new more) → OnErr r (AppendsPrefix old new (bytes ++ more))
+prefix_of_both r old middle new bytes more h k = on_err_weaker r (λ written. prefix_after old middle new bytes more h written) k

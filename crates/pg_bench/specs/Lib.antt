@@ -1,5 +1,6 @@
 pub mod Promise
 pub mod Parsed
+pub mod Pieces
 pub mod Refusals
 pub mod Showing
 pub mod Probing

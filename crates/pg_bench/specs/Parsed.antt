@@ -55,6 +55,13 @@ IsErrorOf offer file reader left e = ParsesReader offer file reader left (λ g b
 abbrev pub ReadsText : Option (List ℕ) → Option (List ℕ) → (List ℕ → Type 0) → Type 0
 ReadsText reader left Is = (bytes : List ℕ) × Consumes reader left bytes × IsAtEnd left × Is bytes
 
+-- the reader's whole bytes spell the text
+pub record IsTextOf (reader left : Option (List ℕ)) (text : List ℕ) : Type 0 where
+  pub bytes : List ℕ
+  pub read : Consumes reader left bytes
+  pub end : IsAtEnd left
+  pub spelled : IsSpelledBy bytes text
+
 -- this is the forest of the reader's whole bytes by the grammar, derived along this trail, at this cost
 abbrev pub IsForestBy : Grammar → Option (List ℕ) → Option (List ℕ) → List Tree → List TrailItem → Done → Type 0
 IsForestBy g reader left forest trail done = ReadsText reader left (λ bytes. IsForestOfBytes g bytes forest trail done)

@@ -50,6 +50,15 @@ IsParseRefusal g bytes =
       parse_error = IsErrorOfBytes g bytes;
     })
 
+-- reading a text fails only with this, and for this reason
+abbrev pub IsUnspelled : {R : Type 0} → Metered R → Metered R → Option (List ℕ) → Option (List ℕ) → BenchFault → Type 0
+IsUnspelled before after reader left =
+    Claimed (record memory_alone {
+      reader = IsUnread before after;
+      not_utf8 = IsWell before after × ReadsText reader left (λ bytes. ¬ (IsUtf8 bytes));
+      too_long = IsWell before after × ReadsText reader left (λ bytes. IsUtf8 bytes × (LIMIT < length (chars bytes)));
+    })
+
 -- parsing what a reader gives fails only with this, and for this reason
 abbrev pub IsTextFault : {R : Type 0} → Grammar → Metered R → Metered R → Option (List ℕ) → Option (List ℕ) → BenchFault → Type 0
 IsTextFault g before after reader left =
@@ -58,6 +67,21 @@ IsTextFault g before after reader left =
       not_utf8 = IsWell before after × ReadsText reader left (λ bytes. ¬ (IsUtf8 bytes));
       too_long = IsWell before after × ReadsText reader left (λ bytes. IsUtf8 bytes × (LIMIT < length (chars bytes)));
       parse_error = λ error. IsWell before after × ReadsText reader left (λ bytes. IsErrorOfBytes g bytes error);
+    })
+
+-- parsing a text and writing what is wanted of it fails only with this, and for this reason
+abbrev pub IsWritingRefusal : Grammar → List ℕ → BenchFault → Type 0
+IsWritingRefusal g text = Claimed (record memory_alone { parse_error = IsErrorOfText g text; writer = Unit {0} })
+
+-- parsing what a reader gives and writing what is wanted of it fails only with this, and for this reason
+abbrev pub IsWritingFault : {R : Type 0} → Grammar → Metered R → Metered R → Option (List ℕ) → Option (List ℕ) → BenchFault → Type 0
+IsWritingFault g before after reader left =
+    Claimed (record memory_alone {
+      reader = IsUnread before after;
+      not_utf8 = IsWell before after × ReadsText reader left (λ bytes. ¬ (IsUtf8 bytes));
+      too_long = IsWell before after × ReadsText reader left (λ bytes. IsUtf8 bytes × (LIMIT < length (chars bytes)));
+      parse_error = λ error. IsWell before after × ReadsText reader left (λ bytes. IsErrorOfBytes g bytes error);
+      writer = IsWell before after;
     })
 
 -- showing a text fails only with this: there is no trail, if that may be

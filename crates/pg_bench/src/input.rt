@@ -3,8 +3,8 @@
 ghost use Rattle.std.specs.Prelude.{◌≡◌, ◌≤◌, ◌+◌, ◌*◌, false, IfOk, IfErr, OnOk};
 ghost use Rattle.std.specs.Io.KnownBytes.{Consumes, IsAtEnd};
 ghost use Rattle.pg_tree.specs.Meter.{saturating_sum};
-ghost use Rattle.pg_bench.specs.Parsed.{IsSpelledBy};
-ghost use Rattle.pg_bench.specs.Refusals.{IsReadRefusal, IsTextRefusal, IsWell};
+ghost use Rattle.pg_bench.specs.Parsed.{IsSpelledBy, IsTextOf};
+ghost use Rattle.pg_bench.specs.Refusals.{IsReadRefusal, IsTextRefusal, IsUnspelled, IsWell};
 
 use pg_bench_grammar::BenchFault;
 use pg_text::{LIMIT, Text, TextFault};
@@ -14,6 +14,19 @@ use std::io::Read;
 
 /// The most bytes of a text. A character has at most four.
 const TEXT_BYTES: usize = 4 * LIMIT;
+
+/// The text that a reader gives. Fails with `Reader`, with the faults of `text_of`, or with `Memory`.
+#[tactic(auto, using(crate::proofs::ReadTexts::text_read, crate::proofs::ReadTexts::read_unspelled, crate::proofs::ReadTexts::text_unspelled))]
+pub(crate) fn text_from<R: Read>(alloc: Global, reader: &mut Meter<R>) -> Result<Text, BenchFault>
+    requires { reader.old.failed ≡ false }
+    ensures ok { IfOk result (IsTextOf (R.remaining reader.old.inner) (R.remaining reader.new.inner)) }
+    ensures well { OnOk result (IsWell reader.old reader.new) }
+    ensures err { IfErr result (IsUnspelled reader.old reader.new (R.remaining reader.old.inner) (R.remaining reader.new.inner)) }
+    ensures asked { reader.new.calls ≤ saturating_sum reader.old.calls (4 * LIMIT + 1) }
+{
+    let bytes = read_text(alloc, reader)?;
+    text_of(alloc, bytes.as_slice())
+}
 
 /// All bytes that the reader gives. Fails with `Reader` or `Memory`.
 pub fn read_text<R: Read>(alloc: Global, reader: &mut Meter<R>) -> Result<Vec<u8>, BenchFault>

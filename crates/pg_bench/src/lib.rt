@@ -12,6 +12,7 @@ mod done;
 #[cfg(test)]
 mod failing_tests;
 mod input;
+mod json;
 mod laws;
 mod line;
 #[cfg(test)]
@@ -26,6 +27,7 @@ mod replay;
 mod showing;
 #[cfg(test)]
 mod tests;
+mod writing;
 
 pub use done::Done;
 pub use input::text_of;

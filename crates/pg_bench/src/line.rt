@@ -1,6 +1,6 @@
 //! A line of JSON for each text: its trees, or why it has none. A text always gets its line, so lines and texts stay in step.
 
-ghost use Rattle.std.specs.Prelude.{◌≡◌, ◌≤◌, ◌+◌, ◌*◌, ◌++◌, ◌⊎◌, codes, false, true, IfOk, IfErr, OnOk, IsErrOf, string_bytes};
+ghost use Rattle.std.specs.Prelude.{◌≡◌, ◌≤◌, ◌+◌, ◌*◌, ◌++◌, codes, false, true, IfOk, IfErr, OnOk, OnErr, IsErrOf, string_bytes};
 ghost use Rattle.std.specs.Io.KnownBytes.{Appends};
 ghost use Rattle.pg_pred.specs.Offer.{offer_of};
 ghost use Rattle.pg_grammar_value.specs.Fits.{Fits};
@@ -9,22 +9,26 @@ ghost use Rattle.pg_tree.specs.Meter.{saturating_sum};
 ghost use Rattle.pg_tree.specs.Bytes.{AppendsPrefix};
 ghost use Rattle.pg_table.specs.Tables.{initial, whole};
 ghost use Rattle.pg_bench.specs.Parsed.{IsLineBy, IsPartlyLineBy, line_front, error_line_text};
-ghost use Rattle.pg_bench.specs.Refusals.{IsTextFault};
+ghost use Rattle.pg_bench.specs.Pieces.{IsLineOfText, IsPartlyLineOfText, json_bytes};
+ghost use Rattle.pg_bench.specs.Refusals.{IsTextFault, IsWritingRefusal};
 ghost use Rattle.pg_bench_grammar.specs.Faults.{IsWriteRefusal, IsBeforeWriting};
 
 use crate::done::Done;
-use crate::pieces::{Pieces, read_pieces};
+use crate::input::text_from;
+use crate::json::Json;
+use crate::pieces::{Pieces, pieces_of_text};
+use crate::writing::write_lines;
 use pg_bench_grammar::{AcceptedGrammar, BenchFault, write_page};
 use pg_pred::Registry;
-use pg_text::LIMIT;
+use pg_text::{LIMIT, Text};
 use pg_tree::Meter;
 use serde_json::Value;
 use std::alloc::{AllocError, Global};
 use std::io::{Read, Write};
 
-/// As `parse_checked` without a trail, but writes the trees after the text's name: `{"file":NAME,"trees":TREES}` and a line feed (ours). The line is in
-/// memory before its first byte is written.
-#[tactic(auto, using(crate::proofs::PiecesLemmas::line_pieces, crate::proofs::PiecesLemmas::partly_line_pieces))]
+/// As `parse_checked` without a trail, but writes the trees after the text's name: `{"file":NAME,"trees":TREES}` and a line feed (ours). Whatever takes
+/// memory is done before its first byte is written.
+#[tactic(auto, using(crate::proofs::ReadTexts::line_read, crate::proofs::ReadTexts::partly_line_read, crate::proofs::ReadTexts::unspelled_refused, crate::proofs::ReadTexts::line_refused))]
 pub fn parse_line<R: Read, W: Write>(
     alloc: Global,
     accepted: &AcceptedGrammar,
@@ -55,14 +59,45 @@ pub fn parse_line<R: Read, W: Write>(
 
     ensures asked { reader.new.calls ≤ saturating_sum reader.old.calls (4 * LIMIT + 1) }
 {
-    match read_pieces(alloc, accepted, registry, reader, true, false) {
+    match text_from(alloc, reader) {
+        Ok(text) => {
+            let done = write_line_of_text(alloc, accepted, registry, &text, writer, name);
+            drop(text);
+            done
+        }
+        Err(fault) => Err(fault),
+    }
+}
+
+/// Parses a text, and writes its line with this name.
+#[tactic(auto, using(crate::proofs::PiecesLemmas::line_pieces, crate::proofs::PiecesLemmas::partly_line_pieces, crate::proofs::ReadTexts::run_unwritten))]
+fn write_line_of_text<W: Write>(
+    alloc: Global,
+    accepted: &AcceptedGrammar,
+    registry: &Registry,
+    text: &Text,
+    writer: &mut Meter<W>,
+    name: &str,
+) -> Result<Done, BenchFault>
+    requires fits { Fits (offer_of registry.now) accepted.now.checked.grammar }
+    requires table { initial accepted.now.checked.grammar ≡ whole accepted.now.table }
+    requires writer { writer.old.failed ≡ false }
+    ensures ok { IfOk result (IsLineOfText accepted.now.checked.grammar text.now name.now (W.contents writer.old.inner) (W.contents writer.new.inner)) }
+    ensures err { IfErr result (IsWritingRefusal accepted.now.checked.grammar text.now) }
+    ensures writer { IsErrOf result BenchFault.Writer → writer.new.failed ≡ true }
+    ensures prefix { IsErrOf result BenchFault.Writer →
+        IsPartlyLineOfText accepted.now.checked.grammar text.now name.now (W.contents writer.old.inner) (W.contents writer.new.inner) }
+    ensures stays { OnOk result (writer.new.failed ≡ false) }
+    ensures unwritten { IfErr result (λ fault. IsBeforeWriting fault → writer.new ≡ writer.old) }
+{
+    match pieces_of_text(alloc, accepted, registry, text, true, false) {
         Ok(pieces) => {
             let Pieces { json, rest, done } = pieces;
             drop(rest);
-            let written = write_line(alloc, json.as_slice(), name, writer);
-            drop(json);
-            written?;
-            Ok(done)
+            match write_line(alloc, json, name, writer) {
+                Ok(()) => Ok(done),
+                Err(fault) => Err(fault),
+            }
         }
         Err(fault) => Err(fault),
     }
@@ -71,44 +106,63 @@ pub fn parse_line<R: Read, W: Write>(
 /// Writes the line of a text with this name and the JSON of its forest.
 fn write_line<W: Write>(
     alloc: Global,
-    json: &[u8],
+    json: Json<'_>,
     name: &str,
     writer: &mut Meter<W>,
 ) -> Result<(), BenchFault>
     requires { writer.old.failed ≡ false }
-    ensures ok { OnOk result (Appends (W.contents writer.old.inner) (W.contents writer.new.inner) (line_front name.now ++ (json.now ++ codes "}\n"))) }
+    ensures ok { OnOk result (Appends (W.contents writer.old.inner) (W.contents writer.new.inner) (line_front name.now ++ (json_bytes json.entry ++ codes "}\n"))) }
     ensures stays { OnOk result (writer.new.failed ≡ false) }
     ensures err { IfErr result IsWriteRefusal }
     ensures failed { IsErrOf result BenchFault.Writer → writer.new.failed ≡ true }
     ensures prefix { IsErrOf result BenchFault.Writer →
-        AppendsPrefix (W.contents writer.old.inner) (W.contents writer.new.inner) (line_front name.now ++ (json.now ++ codes "}\n")) }
+        AppendsPrefix (W.contents writer.old.inner) (W.contents writer.new.inner) (line_front name.now ++ (json_bytes json.entry ++ codes "}\n")) }
     ensures memory { IsErrOf result BenchFault.Memory → writer.new ≡ writer.old }
 {
-    match line_page(alloc, json, name) {
-        Ok(page) => write_page(page.as_slice(), writer),
-        Err(_) => Err(BenchFault::Memory),
+    match line_front(alloc, name) {
+        Ok(front) => {
+            let written = write_after(front.as_slice(), json, writer);
+            drop(front);
+            written
+        }
+        Err(_) => {
+            drop(json);
+            Err(BenchFault::Memory)
+        }
     }
 }
 
-/// The line of a text with this name and the JSON of its forest.
-fn line_page(alloc: Global, json: &[u8], name: &str) -> Result<Vec<u8>, AllocError>
-    ensures { IfOk result (λ page. page.items ≡ line_front name.now ++ (json.now ++ codes "}\n")) }
+/// Writes the front of a line, and then the JSON of a forest and the end of the line.
+#[tactic(auto, using(pg_text_pieces::proofs::Puts::appends_both, pg_text_pieces::proofs::Puts::prefix_longer, crate::proofs::PiecesLemmas::prefix_of_both))]
+fn write_after<W: Write>(
+    front: &[u8],
+    json: Json<'_>,
+    writer: &mut Meter<W>,
+) -> Result<(), BenchFault>
+    requires { writer.old.failed ≡ false }
+    ensures ok { OnOk result (Appends (W.contents writer.old.inner) (W.contents writer.new.inner) (front.now ++ (json_bytes json.entry ++ codes "}\n"))) }
+    ensures stays { OnOk result (writer.new.failed ≡ false) }
+    ensures only { OnErr result (IsErrOf result BenchFault.Writer) }
+    ensures failed { OnErr result (writer.new.failed ≡ true) }
+    ensures prefix { OnErr result
+        (AppendsPrefix (W.contents writer.old.inner) (W.contents writer.new.inner) (front.now ++ (json_bytes json.entry ++ codes "}\n"))) }
 {
-    let front = line_front(alloc, name)?;
-    let mut page = front.into_bytes();
-    page.reserve(json.len())?;
-    page.extend_from_slice(json)?;
-    page.extend_from_slice(b"}\n")?;
-    Ok(page)
+    match write_page(front, writer) {
+        Ok(()) => write_lines(json, b"}\n", writer),
+        Err(fault) => {
+            drop(json);
+            Err(fault)
+        }
+    }
 }
 
 /// The part of a line before the trees of a text with this name.
-fn line_front(alloc: Global, name: &str) -> Result<String, AllocError>
-    ensures { IfOk result (λ front. string_bytes front ≡ line_front name.now) }
+fn line_front(alloc: Global, name: &str) -> Result<Vec<u8>, AllocError>
+    ensures { IfOk result (λ front. front.items ≡ line_front name.now) }
 {
     let name = quoted(alloc, name)?;
     let front = format!(in alloc; "{{\"file\":{name},\"trees\":")?;
-    Ok(front)
+    Ok(front.into_bytes())
 }
 
 /// The line of a text with this name that has no trees. `said` is the reason (ours). Fails where memory runs out.

@@ -4,24 +4,24 @@
 //! written. So if a step fails, nothing has been read or written that belongs to a later one. `parse_checked` does the steps after the first, for a grammar
 //! that is read once for many texts, and `parsed_text` does these without the last.
 
-ghost use Rattle.std.specs.Prelude.{◌≡◌, ◌≤◌, ◌<◌, ◌+◌, ◌*◌, ◌⊎◌, ◌++◌, false, true, length, Some, IfOk, IfErr, OnOk, IsErrOf};
+ghost use Rattle.std.specs.Prelude.{◌≡◌, ◌≤◌, ◌<◌, ◌+◌, ◌*◌, ◌⊎◌, false, true, length, Some, IfOk, IfErr, OnOk, IsErrOf};
 ghost use Rattle.std.specs.Str.{chars, IsUtf8};
-ghost use Rattle.std.specs.Io.KnownBytes.{Appends};
 ghost use Rattle.pg_pred.specs.Offer.{offer_of};
 ghost use Rattle.pg_grammar_value.specs.Fits.{Fits};
 ghost use Rattle.pg_tree.specs.Meter.{saturating_sum};
-ghost use Rattle.pg_tree.specs.Bytes.{AppendsPrefix};
 ghost use Rattle.pg_table.specs.Tables.{initial, whole};
 ghost use Rattle.pg_bench.specs.Promise.{IsAccepted, IsForestOfText, most_steps};
 ghost use Rattle.pg_bench_grammar.specs.Files.{AreFindingsOf, IsFaultOfFile, SpellsSome};
-ghost use Rattle.pg_bench.specs.Parsed.{IsParsed, IsParsedBy, IsForestBy, HasForestBy, IsForestOfBytes, IsErrorOf, IsErrorBy, IsSpelledBy, ReadsText, IsPartlyWritten, IsPartlyParsedBy, after_forest, parse_text, IfRead};
-ghost use Rattle.pg_bench_grammar.specs.Faults.{IfRefused, IfParseError, IfNotATrail, IfNotVerified, IsWriteRefusal, IsBeforeReading, IsAfterFile, IsAfterReading, IfFile, IsBeforeWriting};
+ghost use Rattle.pg_bench.specs.Parsed.{IsParsed, IsParsedBy, IsForestBy, HasForestBy, IsForestOfBytes, IsErrorOf, IsErrorBy, IsSpelledBy, ReadsText, IsPartlyWritten, IsPartlyParsedBy, after_forest, IfRead};
+ghost use Rattle.pg_bench_grammar.specs.Faults.{IfRefused, IfParseError, IfNotATrail, IfNotVerified, IsBeforeReading, IsAfterFile, IsAfterReading, IfFile, IsBeforeWriting};
+ghost use Rattle.pg_bench.specs.Pieces.{IsCostOfText};
 ghost use Rattle.pg_bench.specs.Refusals.{IsErrorOfAnswer, IsTextFault, IsParseRefusal, IsRunRefusal, IsWell};
 
 use crate::done::Done;
-use crate::input::{read_text, text_of};
-use crate::pieces::read_pieces;
-use pg_bench_grammar::{AcceptedGrammar, BenchFault, accepted_of, write_page};
+use crate::input::{read_text, text_from, text_of};
+use crate::pieces::pieces_of_text;
+use crate::writing::write_parse;
+use pg_bench_grammar::{AcceptedGrammar, BenchFault, accepted_of};
 use pg_grammar_value::Trail;
 use pg_machine::{Answer, Success, run};
 use pg_pred::Registry;
@@ -29,7 +29,7 @@ use pg_predict::Checked;
 use pg_table::Table;
 use pg_text::{LIMIT, Text};
 use pg_trail::write_trail;
-use pg_tree::{Meter, write_bytes};
+use pg_tree::Meter;
 use std::alloc::{AllocError, Global};
 use std::io::{Read, Write};
 
@@ -52,9 +52,9 @@ pub struct ParsedText {
 }
 
 /// Parses the text that a reader gives by the grammar that a file spells, and writes the forest's JSON and a line feed; `with_trail` also the JSON of the
-/// derivation's trail and a line feed. Both lines are in memory before the first byte is written. Only a grammar without findings is run. Then a text has a
-/// forest exactly where the grammar derives it under its initial table. That forest is written, and there is no second derivation. The answer has the steps
-/// of the run and the grammar's step cost: for a text of n characters, the steps are at most the cost times n + 1. The registry has the predicates and
+/// derivation's trail and a line feed. Whatever takes memory is done before the first byte is written. Only a grammar without findings is run. Then a text
+/// has a forest exactly where the grammar derives it under its initial table. That forest is written, and there is no second derivation. The answer has the
+/// steps of the run and the grammar's step cost: for a text of n characters, the steps are at most the cost times n + 1. The registry has the predicates and
 /// builders that the file may name.
 ///
 /// Neither meter must have failed yet. The faults come in the order of [`BenchFault`]. A fault of the file, and `Refused` with all findings of its grammar,
@@ -125,7 +125,6 @@ pub fn parse_bytes<R: Read, W: Write>(
 
 /// As [`parse_bytes`], for a grammar that is loaded already, so that it is read and checked once for many texts. The caller ensures that the registry has
 /// what the grammar names in it, and that the table is its own. Faults of a file and findings don't occur.
-#[tactic(auto, using(crate::proofs::PiecesLemmas::parsed_pieces, crate::proofs::PiecesLemmas::partly_pieces))]
 pub fn parse_checked<R: Read, W: Write>(
     alloc: Global,
     accepted: &AcceptedGrammar,
@@ -181,25 +180,15 @@ pub fn parse_checked<R: Read, W: Write>(
 
     ensures asked { reader.new.calls ≤ saturating_sum reader.old.calls (4 * LIMIT + 1) }
 {
-    match read_pieces(alloc, accepted, registry, reader, true, with_trail) {
-        Ok(pieces) => match write_lines(pieces.json.as_slice(), pieces.rest.as_slice(), writer) {
-            Ok(()) => {
-                let done = pieces.done;
-                drop(pieces);
-                Ok(done)
-            }
-            Err(fault) => {
-                drop(pieces);
-                Err(fault)
-            }
-        },
+    match write_parse(alloc, accepted, registry, reader, writer, with_trail) {
+        Ok(done) => Ok(done),
         Err(fault) => Err(fault),
     }
 }
 
 /// The cost of a parse of the text that a reader gives, for whoever writes nothing of its trees (ours). The caller ensures the same as for [`parsed_text`], and
 /// the faults are the same.
-#[tactic(auto, using(crate::proofs::PiecesLemmas::cost_of_pieces))]
+#[tactic(auto, using(crate::proofs::ReadTexts::cost_read, crate::proofs::ReadTexts::unspelled_refused, crate::proofs::ReadTexts::run_refused))]
 pub fn parse_cost<R: Read>(
     alloc: Global,
     accepted: &AcceptedGrammar,
@@ -213,7 +202,30 @@ pub fn parse_cost<R: Read>(
     ensures err { IfErr result (IsTextFault accepted.now.checked.grammar reader.old reader.new (R.remaining reader.old.inner) (R.remaining reader.new.inner)) }
     ensures asked { reader.new.calls ≤ saturating_sum reader.old.calls (4 * LIMIT + 1) }
 {
-    match read_pieces(alloc, accepted, registry, reader, false, false) {
+    match text_from(alloc, reader) {
+        Ok(text) => {
+            let done = cost_of_text(alloc, accepted, registry, &text);
+            drop(text);
+            done
+        }
+        Err(fault) => Err(fault),
+    }
+}
+
+/// The cost of a parse of a text. Nothing is made of its JSON.
+#[tactic(auto, using(crate::proofs::PiecesLemmas::cost_of_pieces))]
+fn cost_of_text(
+    alloc: Global,
+    accepted: &AcceptedGrammar,
+    registry: &Registry,
+    text: &Text,
+) -> Result<Done, BenchFault>
+    requires fits { Fits (offer_of registry.now) accepted.now.checked.grammar }
+    requires table { initial accepted.now.checked.grammar ≡ whole accepted.now.table }
+    ensures ok { IfOk result (IsCostOfText accepted.now.checked.grammar text.now) }
+    ensures err { IfErr result (IsRunRefusal accepted.now.checked.grammar text.now) }
+{
+    match pieces_of_text(alloc, accepted, registry, text, false, false) {
         Ok(pieces) => {
             let done = pieces.done;
             drop(pieces);
@@ -356,21 +368,4 @@ pub(crate) fn after_forest(
         rest.push(b'\n')?;
     }
     Ok(rest)
-}
-
-/// Writes the forest's JSON, and then the rest.
-fn write_lines<W: Write>(json: &[u8], rest: &[u8], writer: &mut Meter<W>) -> Result<(), BenchFault>
-    requires { writer.old.failed ≡ false }
-    ensures ok { OnOk result (Appends (W.contents writer.old.inner) (W.contents writer.new.inner) (json.now ++ rest.now)) }
-    ensures stays { OnOk result (writer.new.failed ≡ false) }
-    ensures err { IfErr result IsWriteRefusal }
-    ensures failed { IsErrOf result BenchFault.Writer → writer.new.failed ≡ true }
-    ensures prefix { IsErrOf result BenchFault.Writer →
-        AppendsPrefix (W.contents writer.old.inner) (W.contents writer.new.inner) (json.now ++ rest.now) }
-    ensures memory { IsErrOf result BenchFault.Memory → writer.new ≡ writer.old }
-{
-    match write_bytes(json, writer) {
-        Ok(()) => write_page(rest, writer),
-        Err(_) => Err(BenchFault::Writer),
-    }
 }

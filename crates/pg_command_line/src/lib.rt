@@ -14,7 +14,7 @@ const MOST_STEPS: i64 = 1_000_000_000;
 const USUAL_STEPS: u64 = 1_000_000;
 
 /// The version, and the toolchain that proved it.
-pub const VERSION: &str = "0.8.1 (proved by rattle-kit-13f)";
+pub const VERSION: &str = "0.8.3 (proved by rattle-kit-13f)";
 
 /// The help of a word that names a file.
 const GRAMMAR: &str = "The grammar file, or - for standard input";

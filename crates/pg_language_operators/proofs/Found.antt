@@ -1,6 +1,6 @@
 -- What is found by the run is what is read of each row.
 use Rattle.std.proofs.Common.{◌≡◌, ◌<◌, ◌≤◌, ◌+◌, ℕ, suc, List, [], ◌∷◌, Option, Some, None, length, refl, sym, ap, ◌∙◌, arith}
-use Rattle.std.specs.Prelude.{find, filter, map, Bool, true, false, cond}
+use Rattle.std.specs.Prelude.{◌==◌, ◌&&◌, ◌||◌, find, filter, map, Bool, true, false, cond}
 use Rattle.std.proofs.lemmas.List.{drop_all}
 use Rattle.std.specs.Option.{option_map}
 use Rattle.std.specs.List.{take_while}
@@ -11,7 +11,7 @@ use Rattle.pg_grammar_form.specs.declared.decl.Role.{Role}
 use Rattle.pg_grammar_form.specs.declared.operators_item.OperatorsItem.{OperatorsItem}
 use Rattle.pg_grammar_value.specs.Grammar.{Grammar}
 use Rattle.pg_expand.specs.declared.lookup.RowOperator.{RowOperator}
-use Rattle.pg_expand.specs.Rows.{of_role, row_numbered}
+use Rattle.pg_expand.specs.Rows.{is_role, of_role, row_numbered}
 use Rattle.pg_grammar_form.specs.ClassItems.{has_character}
 use Rattle.pg_expand.specs.Lookups.{Groups, found, is_of, with_row, IsLookupOf}
 use Rattle.pg_expand.proofs.RowsFound.{first_agrees}
@@ -19,7 +19,7 @@ use Rattle.pg_language.specs.Runs.{run_at, past_run}
 use Rattle.pg_language.specs.OperatorReads.{Read, read_from, read_run}
 use Rattle.pg_language.proofs.DeclarationsDerived.{found as passes}
 use Rattle.pg_language_operators.specs.declared.standing.Standing.{Standing}
-use Rattle.pg_language_operators.specs.Standings.{read_up_to, reads, Stands}
+use Rattle.pg_language_operators.specs.Standings.{has_row, read_up_to, reads, Stands}
 
 -- ---- symbols of what is found
 
@@ -40,6 +40,21 @@ symbol_found symbol all (o ∷ os) test f e = go (bytes_eq o.symbol symbol) refl
         find test (map (with_row all) (cond b (o ∷ filter (λ o. bytes_eq o.symbol symbol) os) (filter (λ o. bytes_eq o.symbol symbol) os))) ≡ Some f → f.operator.symbol ≡ symbol
     go true s rest h = first (test (with_row all o)) s rest h
     go false s rest h = rest h
+
+-- ---- a row of which nothing is found
+
+-- one operator more, which isn't of the row
+none_more : (number : ℕ) (role : Role) (f : RowOperator) (fs : List RowOperator) (b : Bool) → (f.row == number) ≡ b → (has_row number fs ≡ false → find (is_of number role) fs ≡ None) →
+    (b || has_row number fs) ≡ false → cond (b && is_role role f.operator.role) (Some f) (find (is_of number role) fs) ≡ None
+none_more number role f fs true h rest e = absurd cc
+none_more number role f fs false h rest e = rest e
+
+none_found : (number : ℕ) (role : Role) (fs : List RowOperator) → has_row number fs ≡ false → find (is_of number role) fs ≡ None
+none_found number role [] e = refl
+none_found number role (f ∷ fs) e = none_more number role f fs (f.row == number) refl (λ h. none_found number role fs h) e
+
+pub none_in_row : (s : Standing) (number : ℕ) → has_row number s.found.now ≡ false → (role : Role) → reads s number role ≡ None
+none_in_row s number e role = ap (read_up_to s.end) (none_found number role s.found.now e)
 
 -- ---- nothing is found
 

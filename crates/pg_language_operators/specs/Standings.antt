@@ -1,5 +1,6 @@
 -- What a text has where an operator may stand, as rows ask for it.
-use Rattle.std.specs.Prelude.{◌≡◌, ◌<◌, ◌≤◌, ℕ, suc, List, Option, Some, None, length, find}
+use Rattle.std.specs.Prelude.{◌≡◌, ◌<◌, ◌≤◌, ◌==◌, ℕ, suc, Bool, List, Option, Some, None, length, find}
+use Rattle.std.specs.List.{list_any}
 use Rattle.pg_grammar_form.specs.Operators.{Operator}
 use Rattle.pg_grammar_form.specs.declared.decl.Role.{Role}
 use Rattle.pg_grammar_form.specs.declared.operators_item.OperatorsItem.{OperatorsItem}
@@ -24,6 +25,10 @@ read_up_to j (Some f) = Some (record { operator = f.operator; end = j })
 -- the operator read for a row and role: the first of those found that has them
 abbrev pub reads : Standing → ℕ → Role → Option language.Read
 reads s number role = read_up_to s.end (find (is_of number role) s.found.now)
+
+-- whether one of the operators found is of the row, whatever its role
+abbrev pub has_row : ℕ → List RowOperator → Bool
+has_row number fs = list_any (λ f. f.row == number) fs
 
 -- what the place has: for each row and role it reads what the row's operators of the role read there; and whatever is read ends after the place, in
 -- the text, and its symbol is the run

@@ -1,10 +1,11 @@
 //! Reading a text where an operator may stand.
 
-ghost use Rattle.std.specs.Prelude.{◌≡◌, List, [], Some, IfSome};
+ghost use Rattle.std.specs.Prelude.{◌≡◌, List, [], None, Some, false, IfSome};
 ghost use Rattle.std.specs.Option.{option_map};
 ghost use Rattle.pg_grammar_form.specs.Operators.{Operator};
 ghost use Rattle.pg_expand.specs.Lookups.{IsLookupOf};
-ghost use Rattle.pg_language_operators.specs.Standings.{read_of, reads, Stands};
+ghost use Rattle.pg_grammar_form.specs.declared.decl.Role.{Role as Kind};
+ghost use Rattle.pg_language_operators.specs.Standings.{has_row, read_of, reads, Stands};
 
 use pg_expand::{Lookup, RowOperator};
 use pg_grammar_form::{Decl, OperatorsItem, Role};
@@ -84,4 +85,22 @@ impl<'o, 't> Standing<'o, 't> {
             end: self.end,
         })
     }
+
+    /// Whether an operator of the row, numbered from 1, is among those whose symbol is the run, whatever its role. Where none is, nothing is read for the row. It
+    /// takes no memory.
+    #[inline]
+    pub fn has_row(&self, row: usize) -> bool
+        ensures found { result ≡ has_row row self.now.found.now }
+        ensures none { result ≡ false → (role : Kind) → reads self.now row role ≡ None }
+    {
+        is_any_of(self.found, row)
+    }
+}
+
+/// Whether one of these operators is of the row.
+#[inline]
+fn is_any_of(found: &[RowOperator], row: usize) -> bool
+    ensures { result ≡ has_row row found.now }
+{
+    found.iter().any(|found| found.row == row)
 }

@@ -27,4 +27,5 @@ pub mod Ran
 pub mod RowPasses
 pub mod Held
 pub mod TokenTurns
+pub mod Acts
 pub mod Marks

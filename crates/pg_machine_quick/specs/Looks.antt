@@ -1,17 +1,19 @@
 -- What stands at a place, and where turns lead.
-use Rattle.std.specs.Prelude.{◌≡◌, ◌+◌, ℕ, List, Some, None}
+use Rattle.std.specs.Prelude.{◌≡◌, ◌+◌, ℕ, List, Option, Some, None}
 use Rattle.pg_grammar_form.specs.declared.decl.Role.{Role}
-use Rattle.pg_grammar_form.specs.declared.decl.Role.TheVariants.{InfixRight, InfixLeft, InfixNone, Postfix}
+use Rattle.pg_grammar_form.specs.declared.decl.Role.TheVariants.{InfixRight, InfixLeft, InfixNone, Prefix, Postfix}
 use Rattle.pg_grammar_form.specs.declared.operators_item.OperatorsItem.{OperatorsItem}
 use Rattle.pg_language.specs.Answers.{Given}
 use Rattle.pg_language_operators.specs.Standings.{Stands}
 use Rattle.pg_machine_plan.specs.Plans.{Program, program}
 use Rattle.pg_machine_plan.specs.declared.instruction.Instruction.{Instruction}
+use Rattle.pg_machine_quick.specs.Landmarks.{ArePrefixes, IsRowEnd}
 use Rattle.pg_machine_quick.specs.Ran.{LeadsTo, Makes}
-use Rattle.pg_machine_quick.specs.Tape.{Tape, found_at, tape_act, tape_first_joined, tape_passed}
+use Rattle.pg_machine_quick.specs.Tape.{Tape, found_at, tape_act, tape_passed}
 use Rattle.pg_machine_quick.specs.declared.context.Context.{Context}
 use Rattle.pg_machine_quick.specs.declared.context.Look.{Look}
 use Rattle.pg_machine_quick.specs.declared.frame.Frame.{Frame}
+use Rattle.pg_machine_quick.specs.declared.passing.RowEnd.{RowEnd}
 use Rattle.pg_machine_quick.specs.declared.step.Step.{Step}
 use Rattle.pg_table.specs.Tables.{Table}
 
@@ -30,25 +32,32 @@ given_of c = (program_of c).given
 abbrev pub Leads : Context → Tape → Step → Tape → Type 0
 Leads c s step z = (table : Table) → table.operators ≡ c.operators.now → Makes (program_of c) table s step z
 
--- with these frames and at this place the instruction only passes: it goes on after so many
-abbrev pub Passes : Look → List Frame → Instruction → ℕ → Type 0
-Passes l k i count = (table : Table) (s : Tape) → table.operators ≡ l.context.operators.now → s.place ≡ l.place → s.stack ≡ k
-    → tape_act (program_of l.context) table s (Some i) ≡ tape_passed count s
-
--- no infix operator of the row is read that may follow its first operand
-abbrev pub IsPassedFirst : Look → Table → ℕ → ℕ → Type 0
-IsPassedFirst l table row count = (s : Tape) → s.place ≡ l.place → tape_first_joined row s (found_at (given_of l.context) table s.place row InfixRight)
-    (found_at (given_of l.context) table s.place row InfixLeft) (found_at (given_of l.context) table s.place row InfixNone) ≡ tape_passed count s
+-- at this place and with these frames the instruction only passes: it goes on after so many
+abbrev pub Passes : Context → ℕ → List Frame → Instruction → ℕ → Type 0
+Passes c place k i count = (table : Table) (s : Tape) → table.operators ≡ c.operators.now → s.place ≡ place → s.stack ≡ k
+    → tape_act (program_of c) table s (Some i) ≡ tape_passed count s
 
 -- nothing is read at the place by a row and a role
-abbrev pub NoneRead : Look → ℕ → Role → Type 0
-NoneRead l row role = (table : Table) → table.operators ≡ l.context.operators.now → None ≡ found_at (given_of l.context) table l.place row role
-
--- a row reads nothing after its first operand, and its end has so many instructions
-abbrev pub IsPassedEnd : Look → ℕ → ℕ → Type 0
-IsPassedEnd l row count = NoneRead l row Postfix × (n : ℕ) × ((table : Table) → table.operators ≡ l.context.operators.now → IsPassedFirst l table row n) × (count ≡ n + 2)
+abbrev pub NoneRead : Context → ℕ → ℕ → Role → Type 0
+NoneRead c place row role = (table : Table) → table.operators ≡ c.operators.now → None ≡ found_at (given_of c) table place row role
 
 -- from one place in the code to another it only passes
-abbrev pub IsPassedTo : Look → Tape → ℕ → ℕ → Type 0
-IsPassedTo l s pc next = (table : Table) → table.operators ≡ l.context.operators.now →
-    LeadsTo (program_of l.context) table (record s { pc = pc }) (record s { pc = next })
+abbrev pub IsPassedTo : Context → Tape → ℕ → ℕ → Type 0
+IsPassedTo c s pc next = (table : Table) → table.operators ≡ c.operators.now → LeadsTo (program_of c) table (record s { pc = pc }) (record s { pc = next })
+
+-- how many instructions pass at the end of a row of which nothing stands there, by the operator of the row that waits: up to what applies it, or all
+abbrev pub unread_length : Option Role → ℕ
+unread_length None = 5
+unread_length (Some InfixRight) = 4
+unread_length (Some InfixLeft) = 4
+unread_length (Some InfixNone) = 4
+unread_length (Some Prefix) = 2
+unread_length (Some Postfix) = 2
+
+-- from the end of a row it only passes, so many instructions
+abbrev pub PassesEnd : Context → Tape → RowEnd → ℕ → Type 0
+PassesEnd c s e count = (pc : ℕ) → IsRowEnd c.plan.now pc e → IsPassedTo c s pc (pc + count)
+
+-- where so many prefix operators are read it only passes at this place, this many instructions
+abbrev pub PassesPrefixes : Context → ℕ → ℕ → ℕ → Type 0
+PassesPrefixes c place n count = (s : Tape) (pc : ℕ) → s.place ≡ place → ArePrefixes c.plan.now pc n → IsPassedTo c s pc (pc + count)

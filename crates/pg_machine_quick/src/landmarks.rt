@@ -4,9 +4,9 @@
 //! the run.
 
 ghost use Rattle.std.specs.Prelude.{◌≡◌, IfOk, IfSome};
-ghost use Rattle.pg_machine_quick.specs.Landmarks.{AreLandmarks, IsLandmark, IsRowEnd};
+ghost use Rattle.pg_machine_quick.specs.Landmarks.{AreLandmarks, IsLandmark};
 
-use crate::passing::{RowEnd, row_end_at};
+use crate::passing::{RowEnd, prefixes_at, row_end_at};
 use crate::tokens::{Token, Wrapped, token_at, wrapped_at};
 use pg_machine_plan::{Instruction, Plan};
 use std::alloc::{AllocError, Global};
@@ -19,6 +19,8 @@ pub enum Landmark {
     Plain,
     /// The end of a row is there.
     EndsRow(RowEnd),
+    /// So many prefix operators are read from there on, one row after another.
+    BeginsPrefixes(usize),
     /// A form begins there, and behind its beginning is the code of a token.
     BeginsToken(Token),
     /// A form begins there, and behind its beginning is the code of one around a token.
@@ -77,18 +79,6 @@ impl<'p> MarkedPlan<'p> {
         self.plan.entry()
     }
 
-    /// The end of a row at a place, if one is there.
-    #[inline(always)]
-    pub(crate) fn row_end(&self, pc: usize) -> Option<RowEnd>
-        ensures { IfSome result (IsRowEnd self.now pc) }
-    {
-        match self.landmark(pc) {
-            Some(Landmark::EndsRow(end)) => Some(*end),
-            Some(Landmark::Plain | Landmark::BeginsToken(_) | Landmark::BeginsWrapped(_)) | None =>
-                { None }
-        }
-    }
-
     /// What is known of a place.
     #[inline(always)]
     pub(crate) fn landmark(&self, pc: usize) -> Option<&Landmark>
@@ -133,7 +123,19 @@ fn form_at(plan: &Plan, pc: usize) -> Landmark
         Some(token) => Landmark::BeginsToken(token),
         None => match wrapped_at(plan, pc) {
             Some(wrapped) => Landmark::BeginsWrapped(wrapped),
-            None => Landmark::Plain,
+            None => row_at(plan, pc),
         },
+    }
+}
+
+/// The same where no form begins that is known.
+fn row_at(plan: &Plan, pc: usize) -> Landmark
+    ensures { IsLandmark plan.now pc result }
+{
+    let count = prefixes_at(plan, pc);
+    if count == 0 {
+        Landmark::Plain
+    } else {
+        Landmark::BeginsPrefixes(count)
     }
 }

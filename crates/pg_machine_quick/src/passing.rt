@@ -1,24 +1,31 @@
 //! The code of rows where it only passes.
+//!
+//! What passes is gone over by landmarks: the prefix operators of all rows where no operator can stand, and the ends of rows. One instruction alone isn't worth a
+//! look of its own: it is done as any other.
 
-ghost use Rattle.std.specs.Prelude.{◌≡◌, ℕ, List, slice_get, IfSome};
-ghost use Rattle.pg_machine_plan.specs.declared.instruction.Instruction.TheVariants.{ReadPrefix, ReadPostfix, ReadInfix, Settle};
-ghost use Rattle.pg_machine_quick.specs.Landmarks.{IsRowEnd};
-ghost use Rattle.pg_machine_quick.specs.Looks.{IsLook, IsPassedEnd, IsPassedFirst, IsPassedTo, Passes, program_of};
+ghost use Rattle.std.specs.Prelude.{◌≡◌, ◌+◌, ℕ, suc, true, slice_get, Some, IfSome};
+ghost use Rattle.pg_grammar_form.specs.declared.decl.Role.TheVariants.{Postfix};
+ghost use Rattle.pg_machine_plan.specs.declared.instruction.Instruction.TheVariants.{ReadPrefix};
+ghost use Rattle.pg_machine_quick.specs.Landmarks.{ArePrefixes, IsRowEnd};
+ghost use Rattle.pg_machine_quick.specs.Looks.{IsLook, IsPassedTo, NoneRead, PassesEnd, program_of, unread_length};
 ghost use Rattle.pg_machine_quick.specs.Ran.{LeadsTo};
 ghost use Rattle.pg_machine_quick.specs.Running.{shown};
-ghost use Rattle.pg_machine_quick.specs.Tape.{tape_act, tape_goes};
-ghost use Rattle.pg_machine_quick.specs.declared.frame.Frame.{Frame};
+ghost use Rattle.pg_machine_quick.specs.Tape.{tape_awaited};
 ghost use Rattle.pg_table.specs.Tables.{Table};
 
-use crate::context::Look;
+use crate::context::{Context, Look, is_bare};
 use crate::infix::infix_rank;
+use crate::landmarks::Landmark;
 use crate::rows::builders_at;
 use crate::running::Running;
 use pg_grammar_form::{NodeId, Role};
-use pg_machine_plan::{Instruction, Keep, Plan};
+use pg_machine_plan::{Instruction, Plan};
 
-/// How many instructions are passed at once.
+/// How many landmarks are passed at once.
 const AT_ONCE: usize = 1_000;
+
+/// How many prefix operators, one row after another, are one landmark: a table has at most ten rows.
+const MOST_ROWS: usize = 10;
 
 impl<'a> Running<'a> {
     /// The place in the code up to which it only passes: nothing is read at the place of the text, and nothing that waits is applied.
@@ -37,104 +44,84 @@ impl<'a> Running<'a> {
         pc
     }
 
-    /// Where it goes on from there, if it only passes.
-    #[tactic(auto, using(crate::proofs::RowPasses::one_passed))]
+    /// Where it goes on after the prefix operators of rows that are read there, if no operator can stand at the place: so nothing has to be looked up.
+    #[inline(always)]
+    pub(crate) fn past_prefixes(&self, context: Context<'_>) -> Option<usize>
+        ensures { IfSome result (IsPassedTo context.entry (shown self.now) self.now.pc) }
+    {
+        let Some(Landmark::BeginsPrefixes(count)) = context.plan.landmark(self.pc) else {
+            return None;
+        };
+        let next = self.pc.checked_add(*count)?;
+        if is_bare(context, self.place) {
+            Some(next)
+        } else {
+            None
+        }
+    }
+
+    /// Where it goes on after the end of a row that is there, or after a part of it, if it only passes.
+    #[inline(always)]
     fn next(&self, look: Look<'_>, pc: usize) -> Option<usize>
         requires look { IsLook look }
         requires place { look.place ≡ self.now.place }
-        ensures { IfSome result (IsPassedTo look.entry (shown self.now) pc) }
+        ensures { IfSome result (IsPassedTo look.entry.context (shown self.now) pc) }
     {
-        match self.past_row(look, pc) {
-            Some(next) => Some(next),
-            None => self.past_one(look, pc),
+        match look.context.plan.landmark(pc) {
+            Some(Landmark::EndsRow(end)) => pc.checked_add(self.row_end_length(look, *end)?),
+            Some(
+                Landmark::Plain
+                | Landmark::BeginsPrefixes(_)
+                | Landmark::BeginsToken(_)
+                | Landmark::BeginsWrapped(_),
+            )
+            | None => None,
         }
     }
 
-    /// Where it goes on after the end of a row, which is gone over at once, if it only passes there.
-    fn past_row(&self, look: Look<'_>, pc: usize) -> Option<usize>
+    /// How many instructions of the end of a row only pass: all, or those before the first that may do something else.
+    #[inline(always)]
+    fn row_end_length(&self, look: Look<'_>, end: RowEnd) -> Option<usize>
         requires look { IsLook look }
         requires place { look.place ≡ self.now.place }
-        ensures { IfSome result (IsPassedTo look.entry (shown self.now) pc) }
+        ensures { IfSome result (PassesEnd look.entry.context (shown self.now) end) }
     {
-        let end = look.context.plan.row_end(pc)?;
         let _builders = builders_at(look.context.grammar, end.node)?;
+        let number = end.row.checked_add(1)?;
         let infix = infix_rank(end.row)?;
-        let next = row_end_length(look, end.row)?.checked_add(pc)?;
         match self.awaited(end.rank) {
             Some(_) => None,
-            None => match self.awaited(infix) {
-                Some(_) => None,
-                None => Some(next),
-            },
+            None => {
+                if look.has_row(number) {
+                    before_infix(look, number)
+                } else {
+                    Some(self.unread_length(infix))
+                }
+            }
         }
     }
 
-    /// Where it goes on after the instruction there, if that only passes.
-    fn past_one(&self, look: Look<'_>, pc: usize) -> Option<usize>
-        requires look { IsLook look }
-        requires place { look.place ≡ self.now.place }
-        ensures { IfSome result (λ next. (table : Table) → table.operators ≡ look.entry.context.operators.now → tape_act (program_of look.entry.context) table (record (shown self.now) { pc = pc }) (slice_get look.entry.context.plan.now.code pc) ≡ tape_goes (record (shown self.now) { pc = next })) }
+    /// The same where nothing of the row stands there, whose infix operators have this rank.
+    #[inline(always)]
+    fn unread_length(&self, rank: usize) -> usize
+        ensures { result ≡ unread_length (tape_awaited rank (shown self.now).stack) }
     {
-        let instruction = look.context.plan.code().get(pc)?;
-        pc.checked_add(self.length(look, *instruction)?)
-    }
-
-    /// By how many instructions it passes at this one, if it only passes there.
-    fn length(&self, look: Look<'_>, instruction: Instruction) -> Option<usize>
-        requires look { IsLook look }
-        ensures { IfSome result (Passes look.entry (shown self.now).stack instruction) }
-    {
-        match instruction {
-            Instruction::ReadPrefix(row) => prefix_length(look, row),
-            Instruction::ReadPostfix(keep, node, row) => postfix_length(look, keep, node, row),
-            Instruction::ReadInfix(keep, node, row) => self.infix_length(look, keep, node, row),
-            Instruction::Settle(keep, node, rank) => self.settle_length(look, keep, node, rank),
-            Instruction::Enter
-            | Instruction::Read(_, _)
-            | Instruction::Span(_, _)
-            | Instruction::Jump(_)
-            | Instruction::Pick(_)
-            | Instruction::Call(_)
-            | Instruction::Return
-            | Instruction::Open(_)
-            | Instruction::Close(_, _)
-            | Instruction::Hold
-            | Instruction::Fold(_, _)
-            | Instruction::Link
-            | Instruction::FoldLinks(_, _)
-            | Instruction::Release
-            | Instruction::Rows(_)
-            | Instruction::Mark(_)
-            | Instruction::Commit(_)
-            | Instruction::Again(_)
-            | Instruction::Fail
-            | Instruction::Stop => None,
-        }
-    }
-
-    /// The same where an infix operator of a row is read.
-    #[tactic(auto, using(crate::proofs::RowPasses::infix_passes))]
-    fn infix_length(&self, look: Look<'_>, keep: Keep, node: NodeId, row: usize) -> Option<usize>
-        requires look { IsLook look }
-        ensures { IfSome result (Passes look.entry (shown self.now).stack (ReadInfix keep node row)) }
-    {
-        let _builders = builders_at(look.context.grammar, node)?;
-        match self.awaited(infix_rank(row)?) {
-            Some(_) => None,
-            None => first_infix_length(look, row),
-        }
-    }
-
-    /// The same where the operator that waits is applied, if its rank is this.
-    #[tactic(auto, using(crate::proofs::RowPasses::settle_passes))]
-    fn settle_length(&self, look: Look<'_>, keep: Keep, node: NodeId, rank: usize) -> Option<usize>
-        ensures { IfSome result (Passes look.entry (shown self.now).stack (Settle keep node rank)) }
-    {
-        let _builders = builders_at(look.context.grammar, node)?;
         match self.awaited(rank) {
-            Some(_) => None,
-            None => Some(1),
+            Some(Role::InfixRight | Role::InfixLeft | Role::InfixNone) => 4,
+            Some(Role::Prefix | Role::Postfix) => 2,
+            None => 5,
         }
+    }
+}
+
+/// How many instructions of the end of a row stand before its infix operator, if no postfix operator of the row is read.
+fn before_infix(look: Look<'_>, number: usize) -> Option<usize>
+    requires look { IsLook look }
+    ensures { IfSome result (λ count. (row : ℕ) → number ≡ suc row → NoneRead look.entry.context look.entry.place row Postfix × (count ≡ 2)) }
+{
+    match look.read(number, Role::Postfix) {
+        Some(_) => None,
+        None => Some(2),
     }
 }
 
@@ -172,53 +159,27 @@ pub(crate) fn row_end_at(plan: &Plan, pc: usize) -> Option<RowEnd>
     }
 }
 
-/// How many instructions the end of a row has, if no operator of the row is read that may stand after its first operand.
-fn row_end_length(look: Look<'_>, row: usize) -> Option<usize>
-    requires look { IsLook look }
-    ensures { IfSome result (IsPassedEnd look.entry row) }
+/// How many prefix operators are read from there on, one row after another.
+pub(crate) fn prefixes_at(plan: &Plan, pc: usize) -> usize
+    ensures { ArePrefixes plan.now pc result }
 {
-    match look.read(row.checked_add(1)?, Role::Postfix) {
-        Some(_) => None,
-        None => first_infix_length(look, row)?.checked_add(2),
+    for count in 0..MOST_ROWS {
+        if !is_prefix_at(plan, pc, count) {
+            return count;
+        }
     }
+    MOST_ROWS
 }
 
-/// The same where a prefix operator of a row is read.
-#[tactic(auto, using(crate::proofs::RowPasses::prefix_passes))]
-fn prefix_length(look: Look<'_>, row: usize) -> Option<usize>
-    requires look { IsLook look }
-    ensures { IfSome result (λ count. (k : List Frame) → Passes look.entry k (ReadPrefix row) count) }
+/// Whether a prefix operator is read so many instructions after a place.
+fn is_prefix_at(plan: &Plan, pc: usize, count: usize) -> bool
+    ensures { result ≡ true → (row : ℕ) × (slice_get plan.now.code (pc + count) ≡ Some (ReadPrefix row)) }
 {
-    match look.read(row.checked_add(1)?, Role::Prefix) {
-        Some(_) => None,
-        None => Some(1),
-    }
-}
-
-/// The same where a postfix operator of a row is read.
-#[tactic(auto, using(crate::proofs::RowPasses::postfix_passes))]
-fn postfix_length(look: Look<'_>, keep: Keep, node: NodeId, row: usize) -> Option<usize>
-    requires look { IsLook look }
-    ensures { IfSome result (λ count. (k : List Frame) → Passes look.entry k (ReadPostfix keep node row) count) }
-{
-    let _builders = builders_at(look.context.grammar, node)?;
-    match look.read(row.checked_add(1)?, Role::Postfix) {
-        Some(_) => None,
-        None => Some(1),
-    }
-}
-
-/// The same where an infix operator may follow the first operand of a row.
-fn first_infix_length(look: Look<'_>, row: usize) -> Option<usize>
-    requires look { IsLook look }
-    ensures { IfSome result (λ count. (table : Table) → table.operators ≡ look.entry.context.operators.now → IsPassedFirst look.entry table row count) }
-{
-    let number = row.checked_add(1)?;
-    let right = look.read(number, Role::InfixRight);
-    let left = look.read(number, Role::InfixLeft);
-    let non = look.read(number, Role::InfixNone);
-    match (right, left, non) {
-        (None, None, None) => Some(3),
-        (Some(_), _, _) | (None, Some(_), _) | (None, None, Some(_)) => None,
+    let Some(place) = pc.checked_add(count) else {
+        return false;
+    };
+    match plan.code().get(place) {
+        Some(Instruction::ReadPrefix(_)) => true,
+        Some(_) | None => false,
     }
 }

@@ -185,8 +185,21 @@ pub(crate) fn counted(grammar: &Grammar, class: ClassSite, characters: &[char]) 
     ensures value { result ≡ prefix_len (has_character grammar.now.classes (class_at grammar.now class)) characters.now }
     ensures within { result ≤ length characters.now }
 {
-    characters
-        .iter()
-        .take_while(|c| grammar.contains(class, **c))
-        .count()
+    counted_of(grammar, &class, characters)
+}
+
+/// The same of a class that is lent.
+#[inline(always)]
+fn counted_of(grammar: &Grammar, class: &ClassSite, characters: &[char]) -> usize
+    ensures value { result ≡ prefix_len (has_character grammar.now.classes (class_at grammar.now class.now)) characters.now }
+    ensures within { result ≤ length characters.now }
+{
+    let mut count = 0;
+    for c in characters {
+        if !grammar.contains(*class, *c) {
+            return count;
+        }
+        count += 1;
+    }
+    count
 }

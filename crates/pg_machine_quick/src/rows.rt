@@ -17,12 +17,25 @@ use pg_machine_plan::{Instruction, Keep};
 use pg_text::Text;
 use std::alloc::{AllocError, Global};
 
-/// How many operators are read or applied at a place before the run goes on to its next turn.
-const AT_A_PLACE: usize = 100;
+/// How many instructions of rows are done at a place before the run goes on to its next turn.
+const AT_A_PLACE: usize = 1_000;
 
 impl<'a> Running<'a> {
-    /// Makes turns of the code of rows for as long as the place in the text stays: what stands there is looked up once for them all.
+    /// Makes turns of the code of rows for as long as the place in the text stays.
     pub(crate) fn take_rows(&mut self, context: Context<'_>) -> Result<Step, AllocError>
+        ensures { IfOk result (λ step. Leads context.entry (shown self.old) step (shown self.new)) }
+    {
+        match self.past_prefixes(context) {
+            Some(pc) => {
+                self.pc = pc;
+                Ok(Step::GoesOn)
+            }
+            None => self.look_for_rows(context),
+        }
+    }
+
+    /// The same by what stands at the place, which is looked up once for all of them.
+    fn look_for_rows(&mut self, context: Context<'_>) -> Result<Step, AllocError>
         ensures { IfOk result (λ step. Leads context.entry (shown self.old) step (shown self.new)) }
     {
         match look_at(context, self.place) {
@@ -178,13 +191,6 @@ fn row_instruction(plan: &MarkedPlan<'_>, pc: usize) -> Option<Instruction>
     } else {
         None
     }
-}
-
-/// The instruction there, if there is one.
-pub(crate) fn instruction_at<'p>(plan: &'p MarkedPlan<'_>, pc: usize) -> Option<&'p Instruction>
-    ensures { IfSome result (λ instruction. slice_get plan.now.code pc ≡ Some instruction.now) }
-{
-    plan.code().get(pc)
 }
 
 /// Whether an instruction is one of rows.

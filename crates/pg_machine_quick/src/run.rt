@@ -60,8 +60,9 @@ fn stopped<'a>(
     ensures { IfOk result (λ ran. IfSome ran (λ s. (table : Value) → table.operators ≡ context.entry.operators.now → (n : ℕ) × (tape_run (program_of context.entry) table n (first_tape (program_of context.entry)) ≡ Some (shown s)))) }
 {
     let mut running = first(context.alloc, context.plan, text)?;
+    let code = context.plan.code();
     for _ in 0..turns {
-        match running.turn(context)? {
+        match running.turn(context, code)? {
             Step::GoesOn => {}
             Step::Stops => return Ok(Some(running)),
             Step::GivesUp => return Ok(None),

@@ -2,7 +2,7 @@
 //!
 //! Each method makes one kind of turn as `specs/Tape.antt` says, or gives up. It gives up where a number would be too great, so that no bound has to be kept.
 
-ghost use Rattle.std.specs.Prelude.{◌≡◌, ◌+◌, ◌∷◌, false, length, take, IfOk, IfSome};
+ghost use Rattle.std.specs.Prelude.{◌≡◌, ◌+◌, ◌∷◌, false, Some, length, take, IfOk, IfSome};
 ghost use Rattle.pg_machine_quick.specs.Running.{shown, Does};
 ghost use Rattle.pg_machine_quick.specs.Tape.{tape, tape_goes, tape_back, tape_picked, tape_returned, tape_released, tape_committed, tape_again, tape_stopped, before};
 ghost use Rattle.pg_machine_quick.specs.declared.frame.Frame.TheVariants.{Returns, Encloses, Holds, Marks};
@@ -54,13 +54,10 @@ impl<'a> Running<'a> {
         Step::GoesOn
     }
 
-    /// Goes on at the arm, if there is one.
-    pub(crate) fn pick(&mut self, arm: Option<Arm>) -> Step
-        ensures { Does (tape_picked (shown self.old) arm) result (shown self.new) }
+    /// Goes on at the arm.
+    pub(crate) fn pick(&mut self, arm: Arm) -> Step
+        ensures { Does (tape_picked (shown self.old) (Some arm)) result (shown self.new) }
     {
-        let Some(arm) = arm else {
-            return Step::GivesUp;
-        };
         let Some(nodes) = self.nodes.checked_add(arm.nodes) else {
             return Step::GivesUp;
         };
@@ -196,6 +193,7 @@ impl<'a> Running<'a> {
     }
 
     /// Fails after so many nodes: goes back to the last mark after which nothing was consumed. `consumed` says whether something was.
+    #[inline(never)]
     pub(crate) fn back(&mut self, consumed: bool, nodes: usize) -> Step
         ensures { Does (tape_back consumed nodes self.old.trees (shown self.old).stack) result (shown self.new) }
     {

@@ -21,6 +21,7 @@ use std::alloc::AllocError;
 
 impl<'a> Running<'a> {
     /// A leaf has read so.
+    #[inline(always)]
     pub(crate) fn react(
         &mut self,
         keep: Keep,

@@ -82,11 +82,13 @@ pub(crate) fn found(
 ) -> Result<Vec<Span>, AllocError>
     ensures { IfOk result (λ spans. spans.items ≡ found text.now names.now which kind characters.now) }
 {
-    names
-        .iter()
-        .filter(|name| is_found(text, which, kind, characters, name))
-        .map(|name| name.span)
-        .collect(alloc)
+    let mut spans = Vec::new(alloc);
+    for name in names {
+        if is_found(text, which, kind, characters, name) {
+            spans.push(name.span)?;
+        }
+    }
+    Ok(spans)
 }
 
 /// Whether a name is asked for and has these characters.

@@ -12,11 +12,10 @@ use Rattle.pg_tree.specs.Json.{quoted, json_tree, json_kids}
 use Rattle.pg_tree.proofs.Flattening.{with_kids-no_trees, with_kids-assoc, kids_of-append, flattened-tree}
 use Rattle.pg_tree_placed.specs.Named.{label_at}
 use Rattle.pg_tree_placed.specs.Made.{text_between, kids_taken, kids_from, tree_made, with_entry}
-use Rattle.pg_tree_placed.specs.Written.{comma, back_text, back_of, lifted, kids_left, nodes_left, joined_left, left_text, HaveKids, one_less, with_one_less, is_zero, less, lifts, with_lifted, closing, single_text_if, added_text, outside, within, GoesBack, NodeBack}
+use Rattle.pg_tree_placed.specs.Written.{comma, back_text, back_of, lifted, kids_left, Left, nodes_left, joined_left, left_text, HaveKids, one_less, with_one_less, unless_full, without_label, is_zero, less, lifts, with_lifted, closing, single_text_if, added_text, outside, within, GoesBack, NodeBack}
 use Rattle.pg_tree_placed.specs.declared.entry.Entry.{Entry}
 use Rattle.pg_tree_placed.specs.declared.entry.Entry.TheVariants.{Leaf, Node, Flat, Single, Join}
 use Rattle.pg_tree_placed.specs.declared.pending.Around.{Around}
-use Rattle.pg_tree_placed.specs.declared.stepping.Left.{Left}
 use Rattle.pg_tree_placed.proofs.BackText.{back-kids}
 use Rattle.pg_tree_placed.proofs.Plain.{escape-append}
 
@@ -301,23 +300,36 @@ flat-lifted labels later (c ∷ cs) m ts k h is =
     ∙ ap (λ xs. xs ++ lifted l (take n (drop k ts))) (lifted-back l (take k ts) ∙ ap (λ x. back_of (flattened x (kids_from k ts))) (sym same)) in
     lifted-node labels later c.plain c.flat c.label cs m (flattened m (kids_from k ts)) ts k (around 0 (k + n) c.label) h is (let e : 0 + (k + n) ≡ k + n = omega arith in e) kids
 
+-- the label of a node that is full doesn't matter
+unless-full : (labels : List (List ℕ)) (later : Bool) (p f l : ℕ) (cs : List Around) (ts : List Tree)
+    → nodes_left labels later (around p f l ∷ cs) ts ≡ nodes_left labels later (unless_full p f l ∷ cs) ts
+unless-full labels later zero zero l cs ts = refl
+unless-full labels later zero (suc n) l cs ts = refl
+unless-full labels later (suc n) f l cs ts = refl
+
+left-unlabelled : (labels : List (List ℕ)) (later : Bool) (cs : List Around) (ts : List Tree) → nodes_left labels later cs ts ≡ nodes_left labels later (without_label cs) ts
+left-unlabelled labels later [] ts = refl
+left-unlabelled labels later (c ∷ cs) ts = unless-full labels later c.plain c.flat c.label cs ts
+
 -- a node of some kids that is open then, or whose kids stand in its place
-node-step : (labels : List (List ℕ)) (s z : Left) (cs ds : List Around) (node_of : Around) (us ts : List Tree) (old new : List ℕ) (b : Bool) → s.inside ≡ false
+node-step : (labels : List (List ℕ)) (s : Left) (z : Bool) (cs ds : List Around) (node_of : Around) (us ts : List Tree) (old new : List ℕ) (b : Bool) → s.inside ≡ false
     → lifts labels cs (label_at labels node_of.label) ≡ b
     → (b ≡ false → nodes_left labels s.later cs us ≡ nodes_left labels false (node_of ∷ with_one_less cs) ts ++ (closing (label_at labels node_of.label) ++ comma s.later))
     → (b ≡ true → nodes_left labels s.later cs us ≡ nodes_left labels s.later (with_lifted node_of.plain node_of.flat cs) ts)
-    → NodeBack labels s.later cs node_of old z ds new → left_text labels s cs us ++ old ≡ left_text labels z ds ts ++ new
+    → NodeBack labels s.later cs node_of old z ds new → left_text labels s cs us ++ old ≡ left_text labels (outside z) ds ts ++ new
 node-step labels s z cs ds c us ts old new false out is shows gone it =
     let so = it.is_open is in
     let l = label_at labels c.label in
     let xs = left_text labels s cs us in
-    with_left labels (xs ++ old) (outside false) z ds ts new so.0
+    with_left labels (xs ++ old) (outside false) (outside z) ds ts new (ap outside so.0)
     (before xs (nodes_left labels false ds ts) (closing l) (comma s.later) old new
     (ap (λ b. cond b (joined_left labels s.joined cs us) (nodes_left labels s.later cs us)) out ∙ shows refl
+    ∙ ap (λ ys. (ys ++ (codes "{\"kids\":[" ++ back_text false (kids_left labels c ts))) ++ (closing l ++ comma s.later))
+    (left-unlabelled labels true (with_one_less cs) (drop (total c) ts))
     ∙ ap (λ ys. nodes_left labels false ys ts ++ (closing l ++ comma s.later)) (sym so.1)) so.2)
 node-step labels s z cs ds c us ts old new true out is shows gone it =
     let so = it.is_gone is in
-    with_left labels (left_text labels s cs us ++ old) (outside s.later) z ds ts new so.0
+    with_left labels (left_text labels s cs us ++ old) (outside s.later) (outside z) ds ts new (ap outside so.0)
     (ap (λ b. cond b (joined_left labels s.joined cs us) (nodes_left labels s.later cs us) ++ old) out ∙ ap (λ xs. xs ++ old) (gone refl)
     ∙ ap (λ ys. nodes_left labels s.later ys ts ++ old) (sym so.1) ∙ ap (λ xs. nodes_left labels s.later ds ts ++ xs) (sym so.2))
 
@@ -339,15 +351,15 @@ flat-shown labels later cs label k ts h not =
     sym (back-kids (lifted l (take k ts)) ∙ ap (λ xs. json_kids (kids_of (reverse xs))) (lifted-back l (take k ts)) ∙ ap json_kids (kids_of-back ks)) in
     node-opens labels later cs (around 0 k label) ts k l ks h not (let z : 0 + k ≡ k = omega arith in z) kids
 
-pub node_back : (text : List ℕ) (labels : List (List ℕ)) (s z : Left) (cs ds : List Around) (label k : ℕ) (old new : List ℕ) → s.inside ≡ false → HaveKids cs
-    → NodeBack labels s.later cs (around k 0 label) old z ds new → GoesBack text labels s cs (Node label k) old z ds new
+pub node_back : (text : List ℕ) (labels : List (List ℕ)) (s : Left) (z : Bool) (cs ds : List Around) (label k : ℕ) (old new : List ℕ) → s.inside ≡ false → HaveKids cs
+    → NodeBack labels s.later cs (around k 0 label) old z ds new → GoesBack text labels s cs (Node label k) old (outside z) ds new
 node_back text labels s z cs ds label k old new out h it ts =
     let l = label_at labels label in
     node-step labels s z cs ds (around k 0 label) (with_entry text labels ts (Node label k)) ts old new (lifts labels cs l) out refl
     (λ not. node-shown labels s.later cs label k ts h not) (λ is. node-lifted labels s.later cs l ts k h is) it
 
-pub flat_back : (text : List ℕ) (labels : List (List ℕ)) (s z : Left) (cs ds : List Around) (label k : ℕ) (old new : List ℕ) → s.inside ≡ false → HaveKids cs
-    → NodeBack labels s.later cs (around 0 k label) old z ds new → GoesBack text labels s cs (Flat label k) old z ds new
+pub flat_back : (text : List ℕ) (labels : List (List ℕ)) (s : Left) (z : Bool) (cs ds : List Around) (label k : ℕ) (old new : List ℕ) → s.inside ≡ false → HaveKids cs
+    → NodeBack labels s.later cs (around 0 k label) old z ds new → GoesBack text labels s cs (Flat label k) old (outside z) ds new
 flat_back text labels s z cs ds label k old new out h it ts =
     let l = label_at labels label in
     node-step labels s z cs ds (around 0 k label) (with_entry text labels ts (Flat label k)) ts old new (lifts labels cs l) out refl

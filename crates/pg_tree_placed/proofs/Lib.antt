@@ -3,7 +3,11 @@ pub mod Singles
 pub mod Plain
 pub mod BackText
 pub mod Back
-pub mod Noting
+pub mod AllSteps
 pub mod Closings
 pub mod Opened
 pub mod Settling
+pub mod Noted
+pub mod Putting
+pub mod Escapes
+pub mod Forwarding

@@ -130,6 +130,11 @@ leaf_counts text characters labels ts (Flat label kids) is = absurd is
 leaf_counts text characters labels ts (Single label from to) is = absurd is
 leaf_counts text characters labels ts (Join kids) is = absurd is
 
+-- a step that takes no trees
+pub with_none : (text : List ℕ) (labels : List (List ℕ)) (ts : List Tree) (e : Entry) → kids_taken e ≡ 0
+    → with_entry text labels ts e ≡ tree_made text labels no_trees e ∷ ts
+with_none text labels ts e is = ap (λ n. tree_made text labels (kids_from n ts) e ∷ drop n ts) is
+
 -- no more trees than steps
 pub made_short : (text : List ℕ) (labels : List (List ℕ)) (ts : List Tree) (es : List Entry) → length (made_on text labels ts es) ≤ length ts + length es
 made_short text labels ts [] = omega arith

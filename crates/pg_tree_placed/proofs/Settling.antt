@@ -1,14 +1,11 @@
 -- What begins after a step back: nodes with no kids left, and a joined leaf of which nothing is left.
-use Rattle.std.proofs.Common.{◌≡◌, ◌<◌, ℕ, zero, suc, Bool, true, false, cond, List, [], ◌∷◌, ◌++◌, codes, refl, ap, sym, ◌∙◌, append_assoc, arith, subst}
-use Rattle.std.specs.Prelude.{Result, Ok, Err, IfOk, OnOk}
+use Rattle.std.proofs.Common.{◌≡◌, ℕ, zero, suc, Bool, true, false, cond, List, [], ◌∷◌, ◌++◌, codes, refl, ap, sym, ◌∙◌, append_assoc, arith}
 use Rattle.std.proofs.lemmas.List.{append-nil}
 use Rattle.pg_tree.specs.Trees.{Tree}
 use Rattle.pg_tree.specs.Written.{braces}
-use Rattle.pg_tree_placed.specs.Written.{nodes_left, joined_left, left_text, HaveKids, outside, finished, unfinished, still_later, IsUnfinished, GoesBack, Settles}
-use Rattle.pg_tree_placed.specs.declared.entry.Entry.{Entry}
+use Rattle.pg_tree_placed.specs.Written.{Left, nodes_left, joined_left, left_text, HaveKids, outside, finished, unfinished, still_later, Settles}
 use Rattle.pg_tree_placed.specs.declared.pending.Around.{Around}
-use Rattle.pg_tree_placed.specs.declared.stepping.Left.{Left}
-use Rattle.pg_tree_placed.proofs.Back.{around, true_no, with_left}
+use Rattle.pg_tree_placed.proofs.Back.{around, with_left}
 
 pub still_true : (n : ℕ) → still_later true n ≡ true
 still_true zero = refl
@@ -34,25 +31,9 @@ has-cons zero zero l cs h = h
 has-cons zero (suc n) l cs h = omega arith
 has-cons (suc n) f l cs h = omega arith
 
-has-kids : (cs : List Around) → HaveKids (unfinished cs)
-has-kids [] = tt
-has-kids (c ∷ cs) = has-cons c.plain c.flat c.label cs (has-kids cs)
-
-pub settled_inside : (labels : List (List ℕ)) (s : Left) (cs : List Around) (old : List ℕ) → Settles labels s cs old s cs old
-settled_inside labels s cs old ts = refl
-
-pub unfinished_inside : (s : Left) (cs : List Around) → s.inside ≡ true → 0 < s.joined → IsUnfinished s cs
-unfinished_inside s cs is h = (λ _. h, λ not. true_no (sym not ∙ is))
-
-pub unfinished_outside : (z : Left) (cs ds : List Around) (later : Bool) → z ≡ outside later → ds ≡ unfinished cs → IsUnfinished z ds
-unfinished_outside z cs ds later is e =
-    let no : z.inside ≡ false = ap (λ (s : Left). s.inside) is in
-    (λ yes. true_no (sym no ∙ yes), λ _. subst HaveKids (sym e) (has-kids cs))
-
-pub unfinished_if : {E : Type 0} (r : Result Left E) (cs ds : List Around) (later : Bool) → IfOk r (λ (z : Left). z ≡ outside later) → OnOk r (ds ≡ unfinished cs)
-    → IfOk r (λ (z : Left). IsUnfinished z ds)
-unfinished_if (Ok z) cs ds later is e = unfinished_outside z cs ds later is e
-unfinished_if (Err x) cs ds later is e = tt
+pub kids_unfinished : (cs : List Around) → HaveKids (unfinished cs)
+kids_unfinished [] = tt
+kids_unfinished (c ∷ cs) = has-cons c.plain c.flat c.label cs (kids_unfinished cs)
 
 -- nodes with no kids left begin
 begun : (labels : List (List ℕ)) (later : Bool) (cs ds : List Around) (z : Left) (old new : List ℕ) (ts : List Tree) → z ≡ outside (still_later later (finished cs))
@@ -74,8 +55,3 @@ pub settled_joined : (labels : List (List ℕ)) (s z : Left) (cs ds : List Aroun
 settled_joined labels s z cs ds old new is none so e n ts =
     ap (λ b. cond b (joined_left labels s.joined cs ts) (nodes_left labels s.later cs ts) ++ old) is ∙ ap (λ m. joined_left labels m cs ts ++ old) none
     ∙ append_assoc (nodes_left labels true cs ts) (codes "\"") old ∙ begun labels true cs ds z (codes "\"" ++ old) new ts so e n
-
--- both
-pub both_back : (text : List ℕ) (labels : List (List ℕ)) (s p z : Left) (cs ds fs : List Around) (e : Entry) (old own new : List ℕ)
-    → GoesBack text labels s cs e old p ds own → Settles labels p ds own z fs new → GoesBack text labels s cs e old z fs new
-both_back text labels s p z cs ds fs e old own new back settles ts = back ts ∙ settles ts

@@ -2,7 +2,7 @@
 use Rattle.std.specs.Prelude.{◌≡◌, ◌+◌, ◌-◌, ◌≤◌, ◌<◌, ℕ, Bool, true, false, List, [], ◌∷◌, ◌++◌, take, drop, length, reverse, encode_utf8_all}
 use Rattle.pg_tree.specs.Trees.{Tree, Trees, leaf, node, no_trees, tree, kids_of}
 use Rattle.pg_tree.specs.Built.{flattened, kids_text}
-use Rattle.pg_tree_placed.specs.Named.{label_at}
+use Rattle.pg_tree_placed.specs.Named.{label_at, IsNumber}
 use Rattle.pg_tree_placed.specs.declared.entry.Entry.{Entry}
 use Rattle.pg_tree_placed.specs.declared.entry.Entry.TheVariants.{Leaf, Node, Flat, Single, Join}
 use Rattle.pg_tree_placed.specs.declared.store.Store.{Store}
@@ -96,6 +96,18 @@ pub record IsSingle (s : Store) (number count : ℕ) (e : Entry) : Type 0 where
   pub ends : EndsWith s.entries.items last
   pub around : IsAround number last e
   pub size : count + 1 ≡ s.roots
+
+-- a step makes a node with the label of this number around the leaf of these characters
+pub record IsPlacedAround (number : ℕ) (text characters : List ℕ) (e : Entry) : Type 0 where
+  pub last : Entry
+  pub at : IsPlacedAt text characters last
+  pub around : IsAround number last e
+
+-- a step makes a node with this label around the leaf of these characters
+pub record IsNodeOf (labels : List (List ℕ)) (label text characters : List ℕ) (e : Entry) : Type 0 where
+  pub number : ℕ
+  pub is : IsNumber labels number label
+  pub placed : IsPlacedAround number text characters e
 
 -- a store's steps can be made, and it counts their trees
 pub record IsWhole (s : Store) : Type 0 where

@@ -1,18 +1,17 @@
 -- The text in JSON of steps. Going from the last step to the first, what is left to write is known at each of them.
-use Rattle.std.specs.Prelude.{◌≡◌, ◌+◌, ◌<◌, ◌&&◌, ℕ, zero, suc, Bool, true, false, List, [], ◌∷◌, ◌++◌, Option, Some, None, map, reverse, take, drop, codes, if◌then◌else◌}
+use Rattle.std.specs.Prelude.{◌≡◌, ◌+◌, ◌<◌, ◌&&◌, ℕ, zero, suc, Bool, true, false, List, [], ◌∷◌, ◌++◌, Option, Some, None, reverse, take, drop, codes, if◌then◌else◌}
 use Rattle.std.specs.Str.{bytes_eq}
 use Rattle.json.specs.Print.{escape}
 use Rattle.pg_tree.specs.Trees.{Tree, Trees, leaf, node, no_trees, tree}
 use Rattle.pg_tree.specs.Built.{kids_text}
-use Rattle.pg_tree.specs.Json.{quoted, json_tree}
-use Rattle.pg_tree_placed.specs.Made.{text_between, with_entry, kids_from}
+use Rattle.pg_tree.specs.Json.{quoted, json_tree, json}
+use Rattle.pg_tree_placed.specs.Made.{text_between, with_entry, made_on, kids_from}
 use Rattle.pg_tree_placed.specs.Named.{label_at}
 use Rattle.pg_tree_placed.specs.declared.entry.Entry.{Entry}
 use Rattle.pg_tree_placed.specs.declared.entry.Entry.TheVariants.{Leaf, Node, Flat, Single, Join}
 use Rattle.pg_tree_placed.specs.declared.pending.Around.{Around}
+use Rattle.pg_tree_placed.specs.declared.pending.Open.{Open}
 use Rattle.pg_tree_placed.specs.declared.pending.Pending.{Pending}
-use Rattle.pg_tree_placed.specs.declared.stepping.Left.{Left}
-use Rattle.pg_tree_placed.specs.declared.source.Source.{Source}
 
 -- a comma behind a tree, if another comes after it
 abbrev pub comma : Bool → List ℕ
@@ -35,10 +34,19 @@ lifted label [] = []
 lifted label (leaf text ∷ ts) = leaf text ∷ lifted label ts
 lifted label (node other kids ∷ ts) = if bytes_eq other label then back_of kids ++ lifted label ts else node other kids ∷ lifted label ts
 
+-- around others, so many nodes that are full: no kids of theirs are left, and their label doesn't matter
+abbrev pub with_full : ℕ → List Around → List Around
+with_full zero cs = cs
+with_full (suc n) cs = record { plain = 0; flat = 0; label = 0 } ∷ with_full n cs
+
 -- the nodes that are open, the innermost first
-abbrev pub innermost_first : Option Around → List Around → List Around
+abbrev pub opened : List Open → List Around
+opened [] = []
+opened (o ∷ os) = o.node ∷ with_full o.also (opened os)
+
+abbrev pub innermost_first : Option Open → List Open → List Around
 innermost_first None outer = []
-innermost_first (Some top) outer = top ∷ reverse outer
+innermost_first (Some top) outer = opened (top ∷ reverse outer)
 
 abbrev pub open_in : Pending → List Around
 open_in p = innermost_first p.top p.outer.items
@@ -46,6 +54,13 @@ open_in p = innermost_first p.top p.outer.items
 -- the kids of an open node that are left: some as they are, and before them some that are lifted
 abbrev pub kids_left : List (List ℕ) → Around → List Tree → List Tree
 kids_left labels c ts = take c.plain ts ++ lifted (label_at labels c.label) (take c.flat (drop c.plain ts))
+
+-- what is left beside the open nodes: whether a tree comes next, so that a comma has to be written before it, whether a joined leaf is being written, and how
+-- many trees of it are left
+pub record Left : Type 0 where
+  pub later : Bool
+  pub inside : Bool
+  pub joined : ℕ
 
 -- what is left to write before what has been written: the last of the trees are the kids of the innermost open node that are left, and so on outwards
 abbrev pub nodes_left : List (List ℕ) → Bool → List Around → List Tree → List ℕ
@@ -59,13 +74,10 @@ joined_left labels n cs ts = nodes_left labels true cs (drop n ts) ++ (codes "\"
 abbrev pub left_text : List (List ℕ) → Left → List Around → List Tree → List ℕ
 left_text labels s cs ts = if s.inside then joined_left labels s.joined cs ts else nodes_left labels s.later cs ts
 
--- some kids of the innermost open node are left, or some trees of a joined leaf
+-- some kids of the innermost open node are left
 abbrev pub HaveKids : List Around → Type 0
 HaveKids [] = Unit {0}
 HaveKids (c ∷ cs) = 0 < c.plain + c.flat
-
-abbrev pub IsUnfinished : Left → List Around → Type 0
-IsUnfinished s cs = (s.inside ≡ true → 0 < s.joined) × (s.inside ≡ false → HaveKids cs)
 
 -- one kid less is left
 abbrev pub one_less : ℕ → ℕ → ℕ → Around
@@ -76,6 +88,16 @@ one_less (suc n) flat label = record { plain = n; flat = flat; label = label }
 abbrev pub with_one_less : List Around → List Around
 with_one_less [] = []
 with_one_less (c ∷ cs) = one_less c.plain c.flat c.label ∷ cs
+
+-- without the label of the innermost one, if that is full
+abbrev pub unless_full : ℕ → ℕ → ℕ → Around
+unless_full zero zero label = record { plain = 0; flat = 0; label = 0 }
+unless_full zero (suc n) label = record { plain = 0; flat = suc n; label = label }
+unless_full (suc n) flat label = record { plain = suc n; flat = flat; label = label }
+
+abbrev pub without_label : List Around → List Around
+without_label [] = []
+without_label (c ∷ cs) = unless_full c.plain c.flat c.label ∷ cs
 
 abbrev pub less : ℕ → ℕ
 less zero = zero
@@ -119,6 +141,10 @@ added_text text (Join kids) = []
 abbrev pub GoesBack : List ℕ → List (List ℕ) → Left → List Around → Entry → List ℕ → Left → List Around → List ℕ → Type 0
 GoesBack text labels s cs e old z ds new = (ts : List Tree) → left_text labels s cs (with_entry text labels ts e) ++ old ≡ left_text labels z ds ts ++ new
 
+-- what is left before so many steps, and what is written
+abbrev pub IsWritten : List ℕ → List (List ℕ) → List Entry → ℕ → Left → List Around → List ℕ → Type 0
+IsWritten text labels es steps s cs out = json (reverse (made_on text labels [] es)) ≡ left_text labels s cs (made_on text labels [] (take steps es)) ++ out
+
 -- what begins there has been written: nodes with no kids left, and a joined leaf of which nothing is left
 abbrev pub Settles : List (List ℕ) → Left → List Around → List ℕ → Left → List Around → List ℕ → Type 0
 Settles labels s cs old z ds new = (ts : List Tree) → left_text labels s cs ts ++ old ≡ left_text labels z ds ts ++ new
@@ -131,18 +157,10 @@ abbrev pub within : ℕ → Left
 within joined = record { later = true; inside = true; joined = joined }
 
 -- a step back over a node: it is open then and its closing text is written, or its kids stand in its place
-pub record NodeBack (labels : List (List ℕ)) (later : Bool) (cs : List Around) (node : Around) (old : List ℕ) (z : Left) (ds : List Around) (new : List ℕ) : Type 0 where
+pub record NodeBack (labels : List (List ℕ)) (later : Bool) (cs : List Around) (node : Around) (old : List ℕ) (z : Bool) (ds : List Around) (new : List ℕ) : Type 0 where
   pub is_open : lifts labels cs (label_at labels node.label) ≡ false
-      → (z ≡ outside false) × (ds ≡ node ∷ with_one_less cs) × (new ≡ closing (label_at labels node.label) ++ (comma later ++ old))
-  pub is_gone : lifts labels cs (label_at labels node.label) ≡ true → (z ≡ outside later) × (ds ≡ with_lifted node.plain node.flat cs) × (new ≡ old)
-
--- the closing text of a node, with a comma behind it
-abbrev pub closing_comma : List ℕ → List ℕ
-closing_comma label = closing label ++ codes ","
-
--- these are the closing texts of the labels, backwards
-abbrev pub AreClosings : Source → Type 0
-AreClosings s = map (λ text. reverse text.items) s.closings.now ≡ map closing_comma s.labels.now
+      → (z ≡ false) × (ds ≡ node ∷ without_label (with_one_less cs)) × (new ≡ closing (label_at labels node.label) ++ (comma later ++ old))
+  pub is_gone : lifts labels cs (label_at labels node.label) ≡ true → (z ≡ later) × (ds ≡ with_lifted node.plain node.flat cs) × (new ≡ old)
 
 -- nodes with no kids left are written up to their first bytes: how many there are, and which nodes are still open
 abbrev pub is_full : ℕ → ℕ → Bool

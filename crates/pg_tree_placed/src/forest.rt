@@ -65,6 +65,27 @@ impl<'a> PlacedForest<'a> {
         self.store.push_leaf(characters, from)
     }
 
+    /// Appends what a shape makes, with the symbol, of one leaf of these characters, which stand in the text from this place on. Says whether it did: not if they
+    /// don't stand there, or if more than 32 bits would be needed. The only error is running out of memory.
+    #[inline]
+    pub fn push_built(
+        &mut self,
+        shape: &Shape,
+        symbol: &str,
+        characters: &[char],
+        from: usize,
+    ) -> Result<bool, AllocError>
+        ensures done { IfOk result (λ done. done ≡ true → self.new ≡ self.old ++ built shape.now symbol.now (leaf (encode_utf8_all characters.now) ∷ []) ∷ []) }
+    {
+        match shape {
+            Shape::Node(label) | Shape::Flat(label) => {
+                self.store.push_single(label.as_str(), characters, from)
+            }
+            Shape::Symbol => self.store.push_single(symbol, characters, from),
+            Shape::Join => self.store.push_leaf(characters, from),
+        }
+    }
+
     /// Makes the trees after the first `count` into one tree, as the shape says, with the symbol. The caller owes that there are `count` trees. Says whether
     /// it did: not if more than 32 bits count is needed. The only error is running out of memory.
     #[inline]

@@ -2,14 +2,13 @@
 //!
 //! Going back over the steps, a node is open from its own step to that of its first kid. Each step looks at the innermost one, which is kept apart.
 
-ghost use Rattle.std.specs.Prelude.{◌≡◌, ◌++◌, ◌∷◌, ◌&&◌, ◌+◌, [], length, reverse, IfOk, OnOk};
+ghost use Rattle.std.specs.Prelude.{◌≡◌, ◌↔◌, IsTrue, ◌++◌, ◌∷◌, ◌&&◌, ◌+◌, [], length, reverse, IfOk, OnOk};
 ghost use Rattle.std.specs.Str.{bytes_eq};
-ghost use Rattle.pg_tree.specs.Written.{braces};
+ghost use Rattle.pg_tree.specs.Written.{braces, has_some};
 ghost use Rattle.pg_tree_placed.specs.Named.{label_at};
-ghost use Rattle.pg_tree_placed.specs.Written.{open_in, one_less, with_one_less, with_lifted, lifts, is_zero, is_full, finished, unfinished, still_later};
+ghost use Rattle.pg_tree_placed.specs.Written.{open_in, with_one_less, with_lifted, lifts, without_label, is_zero, is_full, finished, unfinished, still_later};
 
 use crate::labels::named;
-use crate::pieces::push_brace;
 use pg_tree::Label;
 use std::alloc::{AllocError, Global};
 
@@ -24,11 +23,18 @@ pub(crate) struct Around {
     pub(crate) label: u32,
 }
 
+/// An open node, and how many of the nodes around it begin where it does: no kids of theirs are left. So of a chain to the left one node is kept.
+#[derive(Clone, Copy)]
+pub(crate) struct Open {
+    pub(crate) node: Around,
+    pub(crate) also: u32,
+}
+
 /// The nodes that are open. Where there is no innermost one, none is.
 #[derive(Drop)]
 pub(crate) struct Pending {
-    pub(crate) top: Option<Around>,
-    pub(crate) outer: Vec<Around>,
+    pub(crate) top: Option<Open>,
+    pub(crate) outer: Vec<Open>,
 }
 
 impl Pending {
@@ -42,25 +48,32 @@ impl Pending {
         }
     }
 
-    /// How many there are.
-    pub(crate) fn count(&self) -> usize
-        ensures { result ≡ length (open_in self.now) }
+    /// Whether there are none.
+    pub(crate) fn is_empty(&self) -> bool
+        ensures { IsTrue result ↔ open_in self.now ≡ [] }
     {
         match self.top {
-            Some(_) => self.outer.len() + 1,
-            None => 0,
+            Some(_) => false,
+            None => true,
         }
     }
 
     /// One more, inside of the others.
     pub(crate) fn open(&mut self, node: Around) -> Result<(), AllocError>
-        ensures { OnOk result (open_in self.new ≡ node ∷ open_in self.old) }
+        ensures { OnOk result (open_in self.new ≡ node ∷ without_label (open_in self.old)) }
     {
+        let mut also = 0;
         match self.top {
-            Some(top) => self.outer.push(top)?,
+            Some(top) => {
+                if is_full(top.node) {
+                    also = sum(top.also as usize, 1)?;
+                } else {
+                    self.outer.push(top)?;
+                }
+            }
             None => self.outer.clear(),
         }
-        self.top = Some(node);
+        self.top = Some(Open { node, also });
         Ok(())
     }
 
@@ -68,9 +81,12 @@ impl Pending {
     pub(crate) fn take_one(&mut self)
         ensures { open_in self.new ≡ with_one_less (open_in self.old) }
     {
-        match self.top {
-            Some(top) => self.top = Some(with_one_less(top)),
-            None => {}
+        if let Some(top) = &mut self.top {
+            if top.node.plain > 0 {
+                top.node.plain -= 1;
+            } else {
+                top.node.flat = top.node.flat.saturating_sub(1);
+            }
         }
     }
 
@@ -79,7 +95,7 @@ impl Pending {
         ensures { result ≡ lifts labels.now (open_in self.now) (label_at labels.now label) }
     {
         match self.top {
-            Some(top) => is_lifted_by(labels, top, label),
+            Some(top) => is_lifted_by(labels, top.node, label),
             None => false,
         }
     }
@@ -90,11 +106,15 @@ impl Pending {
     {
         match self.top {
             Some(top) => {
-                let flat = sum(node.flat as usize, top.flat.saturating_sub(1))?;
-                self.top = Some(Around {
+                let flat = sum(node.flat as usize, top.node.flat.saturating_sub(1))?;
+                let node = Around {
                     plain: node.plain,
                     flat,
-                    label: top.label,
+                    label: top.node.label,
+                };
+                self.top = Some(Open {
+                    node,
+                    also: top.also,
                 });
             }
             None => {}
@@ -102,42 +122,31 @@ impl Pending {
         Ok(())
     }
 
-    /// Writes the opening texts of the innermost ones of which no kids are left, and drops them. Says whether a tree comes after what is left then.
+    /// Whether no kids are left of the innermost one.
     #[inline(always)]
-    pub(crate) fn begin(&mut self, later: bool, out: &mut Vec<u8>) -> Result<bool, AllocError>
-        ensures left { OnOk result (open_in self.new ≡ unfinished (open_in self.old)) }
-        ensures text { OnOk result (reverse out.new.items ≡ braces (finished (open_in self.old)) ++ reverse out.old.items) }
-        ensures later { IfOk result (λ b. b ≡ still_later later (finished (open_in self.old))) }
+    pub(crate) fn has_full(&self) -> bool
+        ensures { result ≡ has_some (finished (open_in self.now)) }
     {
         match self.top {
-            Some(top) => {
-                if is_full(top) {
-                    self.begin_full(later, out)
-                } else {
-                    Ok(later)
-                }
-            }
-            None => Ok(later),
+            Some(top) => is_full(top.node),
+            None => false,
         }
     }
 
-    /// The same, where the innermost one may have no kids left.
-    #[inline(never)]
-    fn begin_full(&mut self, later: bool, out: &mut Vec<u8>) -> Result<bool, AllocError>
+    /// Drops the innermost ones of which no kids are left, and says how many they are. The only error is that they can't be counted.
+    pub(crate) fn drop_full(&mut self) -> Result<u32, AllocError>
         ensures left { OnOk result (open_in self.new ≡ unfinished (open_in self.old)) }
-        ensures text { OnOk result (reverse out.new.items ≡ braces (finished (open_in self.old)) ++ reverse out.old.items) }
-        ensures later { IfOk result (λ b. b ≡ still_later later (finished (open_in self.old))) }
+        ensures count { IfOk result (λ n. n ≡ finished (open_in self.old)) }
     {
-        let mut later = later;
+        let mut count = 0_u32;
         while let Some(top) = self.top {
-            if !is_full(top) {
-                return Ok(later);
+            if !is_full(top.node) {
+                return Ok(count);
             }
-            push_brace(out)?;
-            later = true;
+            count = sum(top.also as usize + 1, count)?;
             self.top = self.outer.pop();
         }
-        Ok(later)
+        Ok(count)
     }
 }
 
@@ -147,26 +156,6 @@ fn is_lifted_by(labels: &[Label], top: Around, label: u32) -> bool
 {
     top.plain == 0
         && named(labels, label as usize).as_bytes() == named(labels, top.label as usize).as_bytes()
-}
-
-/// With one kid less.
-fn with_one_less(top: Around) -> Around
-    ensures { result ≡ one_less top.plain top.flat top.label }
-{
-    let Around { plain, flat, label } = top;
-    if plain > 0 {
-        Around {
-            plain: plain - 1,
-            flat,
-            label,
-        }
-    } else {
-        Around {
-            plain,
-            flat: flat.saturating_sub(1),
-            label,
-        }
-    }
 }
 
 /// Whether no kids are left.

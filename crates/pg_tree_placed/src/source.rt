@@ -1,100 +1,70 @@
 //! What the text of a step is made of.
 
-ghost use Rattle.std.specs.Prelude.{◌≡◌, ◌++◌, ◌∷◌, ◌-◌, ◌<◌, if◌then◌else◌, [], length, map, take, drop, reverse, IfOk, IfSome, OnOk};
+ghost use Rattle.std.specs.Prelude.{◌≡◌, ◌∷◌, ◌-◌, ◌<◌, [], false, length, map, take, drop, is_err, IfOk, IfSome};
 ghost use Rattle.json.specs.Print.{escape};
-ghost use Rattle.pg_tree.specs.Json.{quoted};
 ghost use Rattle.pg_tree_placed.specs.Made.{text_between};
 ghost use Rattle.pg_tree_placed.specs.Named.{label_at};
-ghost use Rattle.pg_tree_placed.specs.Written.{AreClosings, closing, closing_comma, comma, single_text_if};
+ghost use Rattle.pg_tree_placed.specs.Written.{closing};
+ghost use Rattle.pg_tree_placed.specs.Writing.{AreClosings, IsPut, closing_text};
 
-use crate::characters::{plain_byte, push_leaf, push_plain};
-use crate::pieces::{push_brace, push_comma};
-use pg_tree::{Label, push_quoted};
+use crate::block::{AT_ONCE, Block, Stopped};
+use crate::characters::plain_byte;
+use pg_tree::{Label, Meter, push_quoted};
 use std::alloc::{AllocError, Global};
+use std::io::Write;
 
-/// The text over which the trees stand, the labels, and the closing text of each label's nodes: backwards, with a comma behind the node.
+/// The closing text of a label's nodes. Behind its bytes are others, so that as many of each can be copied.
+#[derive(Drop)]
+pub(crate) struct Closing {
+    pub(crate) bytes: Vec<u8>,
+    pub(crate) len: usize,
+}
+
+/// The text over which the trees stand, the labels, and the closing text of each label's nodes.
 #[derive(Clone, Copy)]
 pub(crate) struct Source<'a> {
     pub(crate) text: &'a [char],
     pub(crate) labels: &'a [Label],
-    pub(crate) closings: &'a [Vec<u8>],
+    pub(crate) closings: &'a [Closing],
 }
 
 impl Source<'_> {
-    /// Writes the closing text of a node with the label of this number, and a comma after it if one is wanted.
+    /// Pushes the closing text of a node with the label of this number.
     #[inline(always)]
-    #[tactic(auto, using(crate::proofs::Closings::closing_pushed))]
-    pub(crate) fn push_closing(
+    pub(crate) fn push_closing<W: Write>(
         &self,
         number: usize,
-        is_comma: bool,
-        out: &mut Vec<u8>,
-    ) -> Result<(), AllocError>
-        requires { AreClosings self.now }
-        ensures { OnOk result (reverse out.new.items ≡ closing (label_at self.now.labels.now number) ++ (comma is_comma ++ reverse out.old.items)) }
+        block: &mut Block,
+        writer: &mut Meter<W>,
+    ) -> Result<(), Stopped>
+        requires closings { AreClosings self.now }
+        requires well { writer.old.failed ≡ false }
+        ensures failed { writer.new.failed ≡ is_err result }
+        ensures so { IsPut result (W.contents writer.old.inner) block.old (W.contents writer.new.inner) block.new (closing (label_at self.now.labels.now number)) }
     {
         if number < self.closings.len() {
-            out.extend_from_slice(without_comma(self.closing_back(number), is_comma))
+            push_written(self.closing(number), block, writer)
         } else {
-            push_nameless(is_comma, out)
+            push_nameless(block, writer)
         }
     }
 
-    /// The closing text of a node with the label of this number and a comma, backwards.
-    fn closing_back(&self, number: usize) -> &[u8]
+    /// The closing text of a node with the label of this number.
+    fn closing(&self, number: usize) -> &Closing
         requires closings { AreClosings self.now }
         requires there { number < length self.now.closings.now }
-        ensures { reverse result.now ≡ closing_comma (label_at self.now.labels.now number) }
+        ensures { closing_text result.now ≡ closing (label_at self.now.labels.now number) }
     {
         let closings = self.closings;
-        closings[number].as_slice()
-    }
-
-    /// Writes the leaf between two places, and a comma after it if one is wanted. Most leaves are one character that stands for itself.
-    #[inline(always)]
-    pub(crate) fn push_leaf(
-        &self,
-        from: u32,
-        to: u32,
-        is_comma: bool,
-        out: &mut Vec<u8>,
-    ) -> Result<(), AllocError>
-        ensures { OnOk result (reverse out.new.items ≡ quoted (text_between self.now.text.now from to) ++ (comma is_comma ++ reverse out.old.items)) }
-    {
-        match self.plain_leaf(from, to) {
-            Some(byte) => push_plain(byte, is_comma, out),
-            None => push_leaf(self.between(from, to), is_comma, out),
-        }
-    }
-
-    /// Writes a node with the label of this number and one kid, the leaf between two places, and a comma after it if one is wanted. A bare one is its leaf.
-    #[inline(always)]
-    pub(crate) fn push_single(
-        &self,
-        number: usize,
-        places: (u32, u32),
-        is_bare: bool,
-        is_comma: bool,
-        out: &mut Vec<u8>,
-    ) -> Result<(), AllocError>
-        requires { AreClosings self.now }
-        ensures { OnOk result (reverse out.new.items ≡ single_text_if is_bare self.now.text.now self.now.labels.now number places.0 places.1 ++ (comma is_comma ++ reverse out.old.items)) }
-    {
-        let (from, to) = places;
-        if is_bare {
-            return self.push_leaf(from, to, is_comma, out);
-        }
-        self.push_closing(number, is_comma, out)?;
-        self.push_leaf(from, to, false, out)?;
-        push_brace(out)
+        &closings[number]
     }
 
     /// The byte of a leaf that is one character that stands for itself.
-    fn plain_leaf(&self, from: u32, to: u32) -> Option<u8>
+    pub(crate) fn plain_leaf(&self, from: u32, to: u32) -> Option<u8>
         ensures { IfSome result (λ byte. escape (text_between self.now.text.now from to) ≡ byte ∷ []) }
     {
         let place = from as usize;
-        if place >= self.text.len() || to.saturating_sub(from) != 1 {
+        if place >= self.text.len() || to as usize != place + 1 {
             return None;
         }
         plain_byte(self.text[place])
@@ -110,44 +80,76 @@ impl Source<'_> {
     }
 }
 
-/// A closing text, without its comma unless that is wanted.
-fn without_comma(closing: &[u8], is_comma: bool) -> &[u8]
-    ensures { result.now ≡ drop (if is_comma then 0 else 1) closing.now }
+/// Pushes a closing text.
+#[inline(always)]
+fn push_written<W: Write>(
+    closing: &Closing,
+    block: &mut Block,
+    writer: &mut Meter<W>,
+) -> Result<(), Stopped>
+    requires { writer.old.failed ≡ false }
+    ensures failed { writer.new.failed ≡ is_err result }
+    ensures so { IsPut result (W.contents writer.old.inner) block.old (W.contents writer.new.inner) block.new (closing_text closing.now) }
 {
-    if is_comma || closing.is_empty() {
-        closing
-    } else {
-        &closing[1..]
+    let bytes = closing.bytes.as_slice();
+    if bytes.len() < AT_ONCE || closing.len > AT_ONCE {
+        return push_long(closing, block, writer);
     }
+    block.push_first(bytes, closing.len, writer)
 }
 
-/// Writes the closing text of a node whose label isn't there.
+/// The same for texts of any length.
 #[inline(never)]
-fn push_nameless(is_comma: bool, out: &mut Vec<u8>) -> Result<(), AllocError>
-    ensures { OnOk result (reverse out.new.items ≡ closing [] ++ (comma is_comma ++ reverse out.old.items)) }
+fn push_long<W: Write>(
+    closing: &Closing,
+    block: &mut Block,
+    writer: &mut Meter<W>,
+) -> Result<(), Stopped>
+    requires { writer.old.failed ≡ false }
+    ensures failed { writer.new.failed ≡ is_err result }
+    ensures so { IsPut result (W.contents writer.old.inner) block.old (W.contents writer.new.inner) block.new (closing_text closing.now) }
 {
-    push_comma(is_comma, out)?;
-    out.extend_from_slice(b"}\"\":\"edon\",]")
+    let bytes = closing.bytes.as_slice();
+    block.push(&bytes[..closing.len.min(bytes.len())], writer)
+}
+
+/// Pushes the closing text of a node whose label isn't there.
+#[inline(never)]
+fn push_nameless<W: Write>(block: &mut Block, writer: &mut Meter<W>) -> Result<(), Stopped>
+    requires { writer.old.failed ≡ false }
+    ensures failed { writer.new.failed ≡ is_err result }
+    ensures so { IsPut result (W.contents writer.old.inner) block.old (W.contents writer.new.inner) block.new (closing []) }
+{
+    block.push(b"],\"node\":\"\"}", writer)
 }
 
 /// The closing texts of nodes with these labels, so that each label is written in JSON once.
-pub(crate) fn closings(alloc: Global, labels: &[Label]) -> Result<Vec<Vec<u8>>, AllocError>
-    ensures { IfOk result (λ texts. map (λ text. reverse text.items) texts.items ≡ map closing_comma labels.now) }
+pub(crate) fn closings(alloc: Global, labels: &[Label]) -> Result<Vec<Closing>, AllocError>
+    ensures { IfOk result (λ texts. map closing_text texts.items ≡ map closing labels.now) }
 {
     let mut texts = Vec::with_capacity(alloc, labels.len())?;
     for label in labels {
-        texts.push(closing_text(alloc, label.as_str())?)?;
+        texts.push(closing_of(alloc, label.as_str())?)?;
     }
     Ok(texts)
 }
 
-/// The closing text of a node with this label and a comma, backwards.
-fn closing_text(alloc: Global, label: &str) -> Result<Vec<u8>, AllocError>
-    ensures { IfOk result (λ text. reverse text.items ≡ closing_comma label.now) }
+/// The closing text of a node with this label. It takes more bytes than are copied at once.
+fn closing_of(alloc: Global, label: &str) -> Result<Closing, AllocError>
+    ensures { IfOk result (λ c. closing_text c ≡ closing label.now) }
+{
+    let mut bytes = bytes_of(alloc, label)?;
+    let len = bytes.len();
+    bytes.resize(len.max(AT_ONCE + 1), 0)?;
+    Ok(Closing { bytes, len })
+}
+
+/// The bytes of that text.
+fn bytes_of(alloc: Global, label: &str) -> Result<Vec<u8>, AllocError>
+    ensures { IfOk result (λ text. text.items ≡ closing label.now) }
 {
     let mut text = Vec::from_slice(alloc, b"],\"node\":")?;
     push_quoted(label.as_bytes(), &mut text)?;
-    text.extend_from_slice(b"},")?;
-    text.reverse();
+    text.extend_from_slice(b"}")?;
     Ok(text)
 }

@@ -1,15 +1,14 @@
 //! How the trees of a forest are kept: as the steps that make them.
 
-ghost use Rattle.std.specs.Prelude.{◌≡◌, ◌≤◌, ◌<◌, ◌+◌, List, ◌++◌, if◌then◌else◌, ◌∷◌, [], true, false, length, drop, take, encode_utf8_all, IfOk, IfSome, OnOk, OnErr};
-ghost use Rattle.pg_tree.specs.Trees.{leaf, node, kids_of};
+ghost use Rattle.std.specs.Prelude.{◌≡◌, ◌≤◌, ◌<◌, ◌+◌, ◌++◌, ◌∷◌, [], true, false, length, drop, take, encode_utf8_all, IfOk, IfSome, OnOk, OnErr};
+ghost use Rattle.pg_tree.specs.Trees.{leaf, node, no_trees, tree, kids_of};
 ghost use Rattle.pg_tree.specs.Built.{kids_text};
-ghost use Rattle.pg_tree_placed.specs.Made.{made, trees_in, kids_taken, tree_made, kids_if, IsNamed, with_entry, Fits, IsWhole, IsPlacedAt, IsAround, IsSingle};
+ghost use Rattle.pg_tree_placed.specs.Made.{made, trees_in, kids_taken, tree_made, kids_if, IsNamed, with_entry, Fits, IsWhole, IsPlacedAt, IsNodeOf, IsSingle};
 ghost use Rattle.pg_tree_placed.specs.Named.{IsNumber, label_at};
-ghost use Rattle.pg_tree_placed.specs.declared.entry.Entry.{Entry};
-ghost use Rattle.pg_tree_placed.specs.declared.entry.Entry.TheVariants.{Node, Flat};
 
 use crate::entry::Entry;
-use crate::labels::number_of;
+use crate::labels::{Guesses, number_of};
+use crate::steps::{leaf_of, node_of, placed_single, push_entry, put_last, single_of};
 use pg_tree::Label;
 use std::alloc::{AllocError, Global};
 
@@ -19,6 +18,7 @@ pub(crate) struct Store<'a> {
     pub(crate) alloc: Global,
     pub(crate) text: &'a [char],
     pub(crate) labels: Vec<Label>,
+    pub(crate) guesses: Guesses,
     pub(crate) entries: Vec<Entry>,
     pub(crate) roots: usize,
 }
@@ -33,6 +33,7 @@ impl<'a> Store<'a> {
             alloc,
             text,
             labels: Vec::new(alloc),
+            guesses: Guesses::new(),
             entries: Vec::new(alloc),
             roots: 0,
         }
@@ -56,17 +57,150 @@ impl<'a> Store<'a> {
         ensures err { OnErr result (trees_in self.new ≡ trees_in self.old) }
         ensures whole { IsWhole self.new }
     {
+        match self.ready_leaf(characters, from) {
+            Some(entry) => self.push_tree(entry),
+            None => self.push_any(characters, from),
+        }
+    }
+
+    /// The same for leaves of any length, and where room for a step has to be made.
+    #[inline(never)]
+    #[tactic(auto, using(crate::proofs::Making::leaf_more, crate::proofs::Making::leaf_fits, crate::proofs::Making::leaf_counts))]
+    fn push_any(&mut self, characters: &[char], from: usize) -> Result<bool, AllocError>
+        requires { IsWhole self.old }
+        ensures done { IfOk result (λ done. done ≡ true → trees_in self.new ≡ trees_in self.old ++ leaf (encode_utf8_all characters.now) ∷ []) }
+        ensures stays { IfOk result (λ done. done ≡ false → trees_in self.new ≡ trees_in self.old) }
+        ensures err { OnErr result (trees_in self.new ≡ trees_in self.old) }
+        ensures whole { IsWhole self.new }
+    {
         let Some(entry) = leaf_of(self.text, characters, from) else {
             return Ok(false);
         };
-        let Some(roots) = self.roots.checked_add(1) else {
-            return Ok(false);
-        };
+        self.push_tree(entry)
+    }
+
+    /// Appends a node with this label around a leaf of these characters, if they stand in the text from this place on. Says whether it did.
+    pub(crate) fn push_single(
+        &mut self,
+        label: &str,
+        characters: &[char],
+        from: usize,
+    ) -> Result<bool, AllocError>
+        requires { IsWhole self.old }
+        ensures done { IfOk result (λ done. done ≡ true → trees_in self.new ≡ trees_in self.old ++ node label.now (tree (leaf (encode_utf8_all characters.now)) no_trees) ∷ []) }
+        ensures whole { IsWhole self.new }
+    {
+        match self.around_ready(label, characters, from) {
+            Some(entry) => self.push_tree(entry),
+            None => self.push_around(label, characters, from),
+        }
+    }
+
+    /// The same for labels and leaves of any length, and where room for a step has to be made.
+    #[inline(never)]
+    fn push_around(
+        &mut self,
+        label: &str,
+        characters: &[char],
+        from: usize,
+    ) -> Result<bool, AllocError>
+        requires { IsWhole self.old }
+        ensures done { IfOk result (λ done. done ≡ true → trees_in self.new ≡ trees_in self.old ++ node label.now (tree (leaf (encode_utf8_all characters.now)) no_trees) ∷ []) }
+        ensures whole { IsWhole self.new }
+    {
+        match self.around_leaf(label, characters, from) {
+            Some(entry) => self.push_tree(entry),
+            None => self.push_wrapped(label, characters, from),
+        }
+    }
+
+    /// The same in two steps, where the label's number isn't known at once or doesn't fit into one.
+    #[inline(never)]
+    fn push_wrapped(
+        &mut self,
+        label: &str,
+        characters: &[char],
+        from: usize,
+    ) -> Result<bool, AllocError>
+        requires { IsWhole self.old }
+        ensures done { IfOk result (λ done. done ≡ true → trees_in self.new ≡ trees_in self.old ++ node label.now (tree (leaf (encode_utf8_all characters.now)) no_trees) ∷ []) }
+        ensures whole { IsWhole self.new }
+    {
+        let count = self.roots;
+        if self.push_leaf(characters, from)? {
+            self.wrap(label, false, count)
+        } else {
+            Ok(false)
+        }
+    }
+
+    /// The number of a label, if it is short and the one that was noted, and there is room for a step.
+    #[inline(always)]
+    fn ready_number(&self, label: &str) -> Option<usize>
+        ensures { IfSome result (λ n. IsNumber self.now.labels.items n label.now) }
+    {
+        if self.is_full() {
+            return None;
+        }
+        self.guesses.short_number(self.labels.as_slice(), label)
+    }
+
+    /// Whether there is no room for a step.
+    #[inline(always)]
+    fn is_full(&self) -> bool {
+        self.entries.len() == self.entries.capacity()
+    }
+
+    /// The leaf of one character, if it stands there and there is room for a step.
+    #[inline(always)]
+    fn ready_leaf(&self, characters: &[char], from: usize) -> Option<Entry>
+        ensures { IfSome result (IsPlacedAt self.now.text.now characters.now) }
+    {
+        if self.is_full() || characters.len() != 1 {
+            return None;
+        }
+        leaf_of(self.text, characters, from)
+    }
+
+    /// The step that makes a node with this label around the leaf of one character, if that is ready, and the label's number too.
+    #[inline(always)]
+    fn around_ready(&self, label: &str, characters: &[char], from: usize) -> Option<Entry>
+        ensures { IfSome result (λ entry. IsNodeOf self.now.labels.items label.now self.now.text.now characters.now entry) }
+    {
+        if characters.len() != 1 {
+            return None;
+        }
+        let number = self.ready_number(label)?;
+        placed_single(number, self.text, characters, from)
+    }
+
+    /// The step that makes a node with this label around a leaf of these characters, if they stand there and the label's number is the one that was noted.
+    fn around_leaf(&self, label: &str, characters: &[char], from: usize) -> Option<Entry>
+        ensures { IfSome result (λ entry. IsNodeOf self.now.labels.items label.now self.now.text.now characters.now entry) }
+    {
+        let number = self.guesses.number(self.labels.as_slice(), label)?;
+        placed_single(number, self.text, characters, from)
+    }
+
+    /// Makes a step that takes no trees.
+    #[inline(always)]
+    #[tactic(auto, using(crate::proofs::Making::with_none))]
+    fn push_tree(&mut self, entry: Entry) -> Result<bool, AllocError>
+        requires whole { IsWhole self.old }
+        requires fits { IsNamed self.old.labels.items entry }
+        requires none { kids_taken entry ≡ 0 }
+        ensures done { IfOk result (λ done. done ≡ true → made self.new ≡ tree_made self.old.text.now self.old.labels.items no_trees entry ∷ made self.old) }
+        ensures stays { IfOk result (λ done. done ≡ false → made self.new ≡ made self.old) }
+        ensures err { OnErr result (made self.new ≡ made self.old) }
+        ensures whole { IsWhole self.new }
+    {
+        let roots = self.roots + 1;
         self.push(entry, roots)?;
         Ok(true)
     }
 
     /// Makes a step, after which there are so many trees.
+    #[inline(always)]
     fn push(&mut self, entry: Entry, roots: usize) -> Result<(), AllocError>
         requires whole { IsWhole self.old }
         requires fits { Fits self.old.labels.items (made self.old) entry }
@@ -91,8 +225,9 @@ impl<'a> Store<'a> {
     }
 
     /// Makes the trees after the first `count` into one by this step. It takes just these, and its label is there.
+    #[inline(always)]
     #[tactic(auto, using(crate::proofs::Making::wrapped))]
-    pub(crate) fn make(&mut self, entry: Entry, count: usize) -> Result<bool, AllocError>
+    fn make(&mut self, entry: Entry, count: usize) -> Result<bool, AllocError>
         requires whole { IsWhole self.old }
         requires kids { count + kids_taken entry ≡ length (made self.old) }
         requires named { IsNamed self.old.labels.items entry }
@@ -102,9 +237,7 @@ impl<'a> Store<'a> {
         ensures err { OnErr result (trees_in self.new ≡ trees_in self.old) }
         ensures whole { IsWhole self.new }
     {
-        let Some(roots) = count.checked_add(1) else {
-            return Ok(false);
-        };
+        let roots = count + 1;
         self.push(entry, roots)?;
         Ok(true)
     }
@@ -122,7 +255,43 @@ impl<'a> Store<'a> {
         ensures done { IfOk result (λ done. done ≡ true → trees_in self.new ≡ take count (trees_in self.old) ++ node label.now (kids_if is_flat label.now (kids_of (drop count (trees_in self.old)))) ∷ []) }
         ensures whole { IsWhole self.new }
     {
+        match self.ready_number(label) {
+            Some(number) => self.wrap_numbered(number, is_flat, count),
+            None => self.wrap_named(label, is_flat, count),
+        }
+    }
+
+    /// The same where the label's number has to be looked for, or room for a step made.
+    #[inline(never)]
+    fn wrap_named(&mut self, label: &str, is_flat: bool, count: usize) -> Result<bool, AllocError>
+        requires whole { IsWhole self.old }
+        requires within { count ≤ length (made self.old) }
+        ensures done { IfOk result (λ done. done ≡ true → trees_in self.new ≡ take count (trees_in self.old) ++ node label.now (kids_if is_flat label.now (kids_of (drop count (trees_in self.old)))) ∷ []) }
+        ensures whole { IsWhole self.new }
+    {
+        if let Some(number) = self.guesses.number(self.labels.as_slice(), label) {
+            return self.wrap_numbered(number, is_flat, count);
+        }
         let number = self.number(label)?;
+        self.guesses.note(label, number);
+        self.wrap_numbered(number, is_flat, count)
+    }
+
+    /// The same, by the label's number.
+    #[inline(always)]
+    fn wrap_numbered(
+        &mut self,
+        number: usize,
+        is_flat: bool,
+        count: usize,
+    ) -> Result<bool, AllocError>
+        requires whole { IsWhole self.old }
+        requires there { number < length self.old.labels.items }
+        requires within { count ≤ length (made self.old) }
+        ensures done { IfOk result (λ done. done ≡ true → trees_in self.new
+            ≡ take count (trees_in self.old) ++ node (label_at self.old.labels.items number) (kids_if is_flat (label_at self.old.labels.items number) (kids_of (drop count (trees_in self.old)))) ∷ []) }
+        ensures whole { IsWhole self.new }
+    {
         match self.single(number, count) {
             Some(entry) => {
                 put_last(&mut self.entries, entry);
@@ -132,7 +301,8 @@ impl<'a> Store<'a> {
         }
     }
 
-    /// The same, by the label's number.
+    /// The same by a step more.
+    #[inline(always)]
     fn wrap_by(&mut self, number: usize, is_flat: bool, count: usize) -> Result<bool, AllocError>
         requires whole { IsWhole self.old }
         requires there { number < length self.old.labels.items }
@@ -148,10 +318,12 @@ impl<'a> Store<'a> {
     }
 
     /// The step that makes a node with the label of this number around the last tree, if that is a leaf and the only tree after the first `count`.
+    #[inline(always)]
     fn single(&self, number: usize, count: usize) -> Option<Entry>
+        requires { count ≤ self.now.roots }
         ensures { IfSome result (IsSingle self.now number count) }
     {
-        if count >= self.roots || self.roots - count != 1 {
+        if self.roots - count != 1 {
             return None;
         }
         single_of(number, *self.entries.last()?)
@@ -183,74 +355,5 @@ impl<'a> Store<'a> {
             };
             self.roots = self.roots - 1 + entry.kids();
         }
-    }
-}
-
-/// Appends a step.
-fn push_entry(entries: &mut Vec<Entry>, entry: Entry) -> Result<(), AllocError>
-    ensures ok { OnOk result (entries.new.items ≡ entries.old.items ++ entry ∷ []) }
-    ensures err { OnErr result (entries.new.items ≡ entries.old.items) }
-{
-    entries.push(entry)?;
-    Ok(())
-}
-
-/// The leaf of these characters, if they stand in the text from this place on.
-fn leaf_of(text: &[char], characters: &[char], from: usize) -> Option<Entry>
-    ensures { IfSome result (λ entry. IsPlacedAt text.now characters.now entry) }
-{
-    let to = from.checked_add(characters.len())?;
-    if to > text.len() || !are_same(&text[from..to], characters) {
-        return None;
-    }
-    match (u32::try_from(from), u32::try_from(to)) {
-        (Ok(from), Ok(to)) => Some(Entry::Leaf(from, to)),
-        (Ok(_) | Err(_), _) => None,
-    }
-}
-
-/// Whether these are the same characters. One is compared at once, since most leaves are short.
-fn are_same(some: &[char], others: &[char]) -> bool
-    ensures { result ≡ true → some.now ≡ others.now }
-{
-    match (some, others) {
-        ([one], [other]) => *one == *other,
-        (_, _) => some == others,
-    }
-}
-
-/// The step that makes a node with the label of this number around the leaf that another step makes.
-fn single_of(number: usize, last: Entry) -> Option<Entry>
-    ensures { IfSome result (IsAround number last) }
-{
-    match last {
-        Entry::Leaf(from, to) => match u16::try_from(number) {
-            Ok(label) => Some(Entry::Single(label, from, to)),
-            Err(_) => None,
-        },
-        Entry::Node(_, _) | Entry::Flat(_, _) | Entry::Single(_, _, _) | Entry::Join(_) => None,
-    }
-}
-
-/// Puts a step in the place of the last one.
-fn put_last(entries: &mut Vec<Entry>, entry: Entry)
-    ensures { (before : List Entry) (last : Entry) → entries.old.items ≡ before ++ last ∷ [] → entries.new.items ≡ before ++ entry ∷ [] }
-{
-    if let Some(last) = entries.len().checked_sub(1) {
-        entries[last] = entry;
-    }
-}
-
-/// The node with the label of this number and so many kids.
-fn node_of(label: usize, kids: usize, is_flat: bool) -> Option<Entry>
-    ensures { IfSome result (λ entry. entry ≡ (if is_flat then Flat label kids else Node label kids)) }
-{
-    match (u32::try_from(label), u32::try_from(kids)) {
-        (Ok(label), Ok(kids)) => Some(if is_flat {
-            Entry::Flat(label, kids)
-        } else {
-            Entry::Node(label, kids)
-        }),
-        (Ok(_) | Err(_), _) => None,
     }
 }

@@ -1,0 +1,12 @@
+use Rattle.std.proofs.Common.{◌≡◌, List, Some, slice_get, subst}
+use Rattle.pg_machine_plan.specs.declared.instruction.Instruction.{Instruction}
+use Rattle.pg_machine_quick.specs.Running.{shown}
+use Rattle.pg_machine_quick.proofs.Acts.{acts, by_each}
+use Rattle.pg_machine_quick.proofs.running.Running.read_on.Goals as goal
+
+pub returns : goal.returns
+returns c =
+    let i : Instruction = c.in-Some-Read.field-0.now in
+    let at : slice_get c.args.context.plan.now.code c.args.self.now.pc ≡ Some i =
+    subst (λ (code : List Instruction). slice_get code c.args.self.now.pc ≡ Some i) c.requires c.in-Some-Read.ensures in
+    acts c.args.context (shown c.args.self.now) (shown c.read.new.self) i _ c.read.result at c.in-Some-Read.field-0-is (by_each c.args.context c.read.result _ c.read.ensures)
